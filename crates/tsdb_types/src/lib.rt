@@ -1,16 +1,24 @@
 //! Times, names, series, values, cells and points: what a database of series is made of.
 #![tactic(auto)]
 
+mod batch;
 mod block;
+mod key;
 mod name;
 mod point;
 mod series;
+mod tag;
+#[cfg(test)]
+mod tests;
 mod time;
 mod value;
 
+pub use batch::Batch;
 pub use block::BlockFault;
+pub use key::{KeyFault, composite, key_fault, split};
 pub use name::{Name, NameFault};
 pub use point::{Cell, Point};
-pub use series::SeriesKey;
+pub use series::{SeriesFault, SeriesKey, reads_once};
+pub use tag::{Tag, Tags};
 pub use time::Time;
 pub use value::{Kind, Value};

@@ -5,7 +5,7 @@ ghost use Rattle.std.specs.Cmp.Lexicographic.{pointwise, slice_cmp, nat_list_eq_
 ghost use Rattle.std.specs.Cmp.{partial_equiv_from_equiv};
 ghost use Rattle.tsdb_types.specs.Names.{IsName};
 
-use std::alloc::Global;
+use std::alloc::{AllocError, Global};
 use std::cmp::Ordering;
 use std::marker::Model;
 use thiserror::Error;
@@ -63,6 +63,14 @@ impl Name {
         ensures text { string_bytes result ≡ self }
     {
         self.text
+    }
+
+    /// An equal name.
+    pub fn carry(&self) -> Result<Name, AllocError>
+        ensures { IfOk result (λ name. name ≡ self.now) }
+    {
+        let text = self.text.clone()?;
+        Ok(Name { text })
     }
 }
 

@@ -1,0 +1,5 @@
+mod EscapeLemmas
+mod KeyLemmas
+mod ReadingLemmas
+mod SeriesLemmas
+mod TagLemmas

@@ -1,0 +1,100 @@
+use crate::{
+    Batch, Cell, KeyFault, Name, Point, SeriesFault, SeriesKey, Tag, Tags, Time, Value, composite,
+    split,
+};
+use std::alloc::Global;
+use std::process::Abort;
+
+fn name(rt: &impl Abort, alloc: Global, text: &str) -> Name {
+    Name::new(alloc, text).expect(rt, "a name")
+}
+
+fn tags(rt: &impl Abort, alloc: Global, texts: &[(&str, &str)]) -> Tags {
+    let mut tags = Vec::new(alloc);
+    for (key, value) in texts {
+        let tag = Tag {
+            key: name(rt, alloc, key),
+            value: name(rt, alloc, value),
+        };
+        tags.push(tag).expect(rt, "room");
+    }
+    Tags::new(tags)
+}
+
+#[test]
+fn tags_stand_in_order_and_escaped(rt: HostRuntime) {
+    let given = tags(
+        &rt,
+        rt.alloc(),
+        &[("rack", "a=1"), ("host", "b c"), ("a,b", "\\d")],
+    );
+    let key = SeriesKey::make(rt.alloc(), name(&rt, rt.alloc(), "cpu, all=x"), given).expect(
+        &rt, "a key",
+    );
+    assert!(&rt; key.text() == "cpu\\,\\ all=x,a\\,b=\\d,host=b\\ c,rack=a\\=1");
+    assert!(&rt; key.is_of(&name(&rt, rt.alloc(), "cpu, all=x")));
+    assert!(&rt; !key.is_of(&name(&rt, rt.alloc(), "cpu,")));
+    let copy = key.carry().expect(&rt, "a copy");
+    assert!(&rt; copy.text() == key.text());
+}
+
+#[test]
+fn equal_keys_of_tags_are_refused(rt: HostRuntime) {
+    let given = tags(
+        &rt,
+        rt.alloc(),
+        &[("host", "a"), ("rack", "1"), ("host", "b")],
+    );
+    let key = SeriesKey::make(rt.alloc(), name(&rt, rt.alloc(), "cpu"), given);
+    assert!(&rt; matches!(&key, Err(SeriesFault::DuplicateTag)));
+}
+
+#[test]
+fn a_key_is_cut_at_its_first_mark(rt: HostRuntime) {
+    let series = SeriesKey::make(
+        rt.alloc(),
+        name(&rt, rt.alloc(), "cpu"),
+        tags(&rt, rt.alloc(), &[("host", "a")]),
+    )
+    .expect(&rt, "a key");
+    let key = composite(rt.alloc(), &series, &name(&rt, rt.alloc(), "a#!~#,b")).expect(
+        &rt,
+        "a composite key",
+    );
+    assert!(&rt; key.as_slice() == b"cpu,host=a#!~#a#!~#,b".as_slice());
+    assert!(&rt; split(key.as_slice()) == Some(10));
+    assert!(&rt; split(b"cpu#!~") == None);
+}
+
+#[test]
+fn a_mark_in_the_series_is_named(rt: HostRuntime) {
+    let series = SeriesKey::make(
+        rt.alloc(),
+        name(&rt, rt.alloc(), "cpu#!~"),
+        tags(&rt, rt.alloc(), &[]),
+    )
+    .expect(&rt, "a key");
+    let key = composite(rt.alloc(), &series, &name(&rt, rt.alloc(), "v"));
+    assert!(&rt; matches!(&key, Err(KeyFault::MarkInKey { at: 3 })));
+}
+
+#[test]
+fn a_batch_has_a_point(rt: HostRuntime) {
+    assert!(&rt; Batch::new(Vec::new(rt.alloc())).is_none());
+    let series = SeriesKey::make(
+        rt.alloc(),
+        name(&rt, rt.alloc(), "cpu"),
+        Tags::new(Vec::new(rt.alloc())),
+    )
+    .expect(&rt, "a key");
+    let point = Point {
+        cell: Cell {
+            time: Time::default(),
+            series,
+            field: name(&rt, rt.alloc(), "v"),
+        },
+        value: Value::Int(-3),
+    };
+    let copy = point.carry().expect(&rt, "a copy");
+    assert!(&rt; copy == point);
+}
