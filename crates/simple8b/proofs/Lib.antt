@@ -1,0 +1,5 @@
+pub mod Tables
+pub mod Selecting
+pub mod Narrowest
+pub mod Packing
+pub mod Spelling
