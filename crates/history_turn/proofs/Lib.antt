@@ -1,0 +1,3 @@
+pub mod HistoriesLemmas
+pub mod OwnedLemmas
+pub mod RuleLemmas
