@@ -1,0 +1,4 @@
+pub mod FailingLemmas
+pub mod MemDesksLemmas
+pub mod MomentsLemmas
+pub mod Pieces
