@@ -1,0 +1,4 @@
+pub mod Points
+pub mod Histories
+pub mod Rows
+pub mod Laws

@@ -1,0 +1,4 @@
+pub mod HistoryLemmas
+pub mod TextLemmas
+pub mod ReadableLemmas
+pub mod ReadableRuns

@@ -1,0 +1,35 @@
+-- Which replies can be told from their bytes?
+use Rattle.std.specs.Prelude.{◌≡◌, ℕ, ◌<◌, ◌^◌, ℤ, pos, negsuc, true, not, ◌==◌, List, All}
+use Rattle.std.specs.List.{list_all}
+use Rattle.session_model.specs.Replies.{Shown, ShownRow, Table, Reply}
+use Rattle.session_model.specs.Replies.Shown.{Number, Truth}
+use Rattle.session_model.specs.Replies.Reply.{Accepted, Found, NotBuilt, HistoryFull, OutOfMemory}
+
+-- the byte doesn't stand in the text
+abbrev pub Lacks : ℕ → List ℕ → Type 0
+Lacks byte text = list_all (λ b. not (b == byte)) text ≡ true
+
+-- a sign and 64 bits hold the number
+abbrev pub Fits65 : ℤ → Type 0
+Fits65 (pos n) = n < 2 ^ 64
+Fits65 (negsuc n) = n < 2 ^ 64
+
+abbrev pub IsReadableShown : Shown → Type 0
+IsReadableShown (Number number) = Fits65 number
+IsReadableShown (Truth truth) = Unit {0}
+
+abbrev pub IsReadableRow : ShownRow → Type 0
+IsReadableRow row = Fits65 row.0 × IsReadableShown row.1
+
+pub record IsReadableTable (table : Table) : Type 0 where
+  pub measurement : Lacks 10 table.measurement
+  pub field : Lacks 10 table.field
+  pub rows : All IsReadableRow table.rows
+
+-- its numbers are of 64 bits, and its names stand on one line
+abbrev pub IsReadable : Reply → Type 0
+IsReadable (Accepted number) = number < 2 ^ 64
+IsReadable (Found number tables) = (number < 2 ^ 64) × All IsReadableTable tables
+IsReadable NotBuilt = Unit {0}
+IsReadable HistoryFull = Unit {0}
+IsReadable OutOfMemory = Unit {0}

@@ -1,0 +1,19 @@
+//! What a session means, as definitions: how bytes are cut into requests, what a request says, what the machine of
+//! one thread replies, how a reply is spelled, and when one history explains what all clients were told.
+#![tactic(auto)]
+
+mod statement;
+
+ghost use Rattle.session_model.specs.Laws.{RepliesAreReadBack, RunsAreExplained};
+
+pub use statement::Statement;
+
+/// What a client is answered by the machine, one request after another, has a history that explains it.
+pub fn runs_are_explained()
+    ensures { RunsAreExplained }
+{}
+
+/// No two lists of replies have one text, so a transcript tells its replies.
+pub fn replies_are_read_back()
+    ensures { RepliesAreReadBack }
+{}
