@@ -1,0 +1,11 @@
+pub mod WordLemmas
+pub mod PieceLemmas
+pub mod NumberLemmas
+pub mod ShapeLemmas
+pub mod CuttingLemmas
+pub mod GoingLemmas
+pub mod EndingLemmas
+pub mod KeepingLemmas
+pub mod ReplyingLemmas
+pub mod ServedLemmas
+pub mod ReadingLemmas

@@ -1,0 +1,9 @@
+-- Nothing is held.
+use Rattle.std.proofs.Common.{sym}
+use Rattle.session_loop.specs.LineAsItComes.{most_kept}
+use Rattle.session_loop.proofs.KeepingLemmas.{shape_nothing}
+use Rattle.session_loop.proofs.line.Line.new.Goals as goal
+
+pub returns : goal.returns
+unfolding most_kept
+returns c = record { kept = c.in_ok-with_capacity.ensures.items; shape = sym shape_nothing }

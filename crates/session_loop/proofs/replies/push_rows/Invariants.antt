@@ -1,0 +1,10 @@
+-- The text so far and the rows that are left are all.
+use Rattle.std.proofs.Common.{◌≡◌, ◌++◌, drop, map}
+use Rattle.std.specs.String.{string_bytes}
+use Rattle.session_model.specs.Replies.{row_line, ended}
+use Rattle.session_model.specs.Machine.{shown_row}
+use Rattle.session_loop.proofs.replies.push_rows.Given as goal
+
+abbrev pub invariant-loop-row : goal.invariant-loop-row
+invariant-loop-row l =
+    string_bytes l.text ++ ended (map row_line (map shown_row (drop l.row-index l.rows))) ≡ string_bytes l.initial.text ++ ended (map row_line (map shown_row l.rows))
