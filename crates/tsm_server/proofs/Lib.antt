@@ -1,0 +1,4 @@
+pub mod Causes
+pub mod Closing
+pub mod Growing
+pub mod Three

@@ -1,0 +1,47 @@
+//! The program: `tsmd mem IN OUT` serves the requests of the file IN over a map in memory, and writes the replies to the
+//! file OUT.
+#![tactic(auto)]
+
+mod gate;
+mod host_desk;
+mod program;
+mod status;
+#[cfg(test)]
+mod tests;
+mod words;
+
+pub use gate::OpenGate;
+pub use host_desk::{HostDesk, Input, Output};
+pub use program::tsmd;
+use session_io::{HostSink, Word};
+pub use session_loop::mem;
+pub use status::Status;
+use std::alloc::AllocError;
+use std::env;
+use std::io::ErrorKind;
+use std::process::ExitCode;
+
+fn main(rt: HostRuntime) -> ExitCode {
+    let alloc = rt.alloc();
+    let mut desk = HostDesk::new(rt);
+    let mut out = HostSink::new(Output::Standard(rt.stdout()));
+    match given_words(rt) {
+        Ok(words) => ExitCode::from(tsmd(&rt, alloc, &words, &mut desk, &mut out, &OpenGate)),
+        Err(AllocError) => ExitCode::from(program::end(&mut out, Status::NoMemory)),
+    }
+}
+
+// The words after the program's name. Where one is no text they are none, which are no command.
+fn given_words(rt: HostRuntime) -> Result<Vec<Word>, AllocError> {
+    let mut words = Vec::new(rt.alloc());
+    match env::args(&rt) {
+        Ok(texts) => {
+            for text in texts.skip(1) {
+                words.push(Word { text })?;
+            }
+            Ok(words)
+        }
+        Err(error) if error.kind() == ErrorKind::OutOfMemory => Err(AllocError),
+        Err(_) => Ok(words),
+    }
+}

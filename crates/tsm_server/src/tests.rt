@@ -1,0 +1,71 @@
+//! Runs of the program over desks in memory.
+mod faults;
+mod rows;
+mod short;
+
+use crate::{OpenGate, tsmd};
+use session_io::{Client, Closed, Desk, MemClock, MemDesk, MemSink, MemSource, Word};
+use std::alloc::{AllocError, Global};
+
+/// What a run answered, printed and wrote to its client.
+#[derive(Drop)]
+struct Outcome {
+    status: u8,
+    printed: String,
+    replies: String,
+}
+
+/// A desk that holds one client, of `in` and `out`, whose reads and writes at these places fail.
+fn desk(
+    alloc: Global,
+    input: &str,
+    failing_reads: &[u64],
+    failing_writes: &[u64],
+) -> Result<MemDesk, AllocError> {
+    let client = Client {
+        source: MemSource::new(
+            input.as_bytes().to_vec(alloc)?,
+            failing_reads.to_vec(alloc)?,
+        ),
+        sink: MemSink::new(alloc, failing_writes.to_vec(alloc)?),
+        clock: MemClock::new(Vec::new(alloc)),
+    };
+    let names = (
+        String::from_str(alloc, "in")?,
+        String::from_str(alloc, "out")?,
+    );
+    let clients = vec![in alloc; (names.0, names.1, client)]?;
+    Ok(MemDesk::new(alloc, clients, Vec::new(alloc)))
+}
+
+fn words_of(alloc: Global, texts: &[&str]) -> Result<Vec<Word>, AllocError> {
+    let mut words = Vec::new(alloc);
+    for text in texts {
+        words.push(Word {
+            text: String::from_str(alloc, text)?,
+        })?;
+    }
+    Ok(words)
+}
+
+/// Runs the program with these words over the desk.
+fn run(rt: &HostRuntime, texts: &[&str], mut desk: MemDesk) -> Result<Outcome, AllocError> {
+    let alloc = rt.alloc();
+    let words = words_of(alloc, texts)?;
+    let mut out = MemSink::new(alloc, Vec::new(alloc));
+    let status = tsmd(rt, alloc, &words, &mut desk, &mut out, &OpenGate);
+    let mut replies = String::new(alloc);
+    for Closed::Client(client, _) in &desk.into_closed() {
+        replies.push_str(text_of(client.sink.bytes()))?;
+    }
+    let printed = String::from_str(alloc, text_of(out.bytes()))?;
+    Ok(Outcome {
+        status,
+        printed,
+        replies,
+    })
+}
+
+fn text_of(bytes: &[u8]) -> &str {
+    std::str::from_utf8(bytes).unwrap_or("no text")
+}
