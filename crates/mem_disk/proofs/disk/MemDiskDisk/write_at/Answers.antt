@@ -1,0 +1,26 @@
+use Rattle.std.proofs.Common.{List, length, subst, sym}
+use Rattle.std.specs.Prelude.{reverse}
+use Rattle.shard_disk.specs.Directory.{Directory, ChangesAt, IfThere, Torn}
+use Rattle.shard_disk.proofs.Runs.{adds_nothing}
+use Rattle.shard_disk.proofs.Steps.{torn_at_same}
+use Rattle.mem_disk.specs.declared.change.Change.{Change}
+use Rattle.mem_disk.specs.History.{reads}
+use Rattle.mem_disk.proofs.Changes.{follows_none}
+use Rattle.mem_disk.proofs.disk.MemDiskDisk.write_at.Goals as goal
+
+pub returns-then-fails-clause-torn : goal.returns-then-fails-clause-torn
+returns-then-fails-clause-torn c =
+    let past = reads (reverse c.args.self.now.contents.changes.items) in
+    λ told. subst (λ (d : Directory). ChangesAt c.args.no (IfThere (Torn c.args.at (length c.args.bytes.now))) past d) (sym c.fail_write.ensures.reads) (torn_at_same c.args.no c.args.at (length c.args.bytes.now) past)
+
+pub returns-in-Err-clause-torn : goal.returns-in-Err-clause-torn
+returns-in-Err-clause-torn c =
+    let past = reads (reverse c.args.self.now.contents.changes.items) in
+    λ told. subst (λ (l : List Change). ChangesAt c.args.no (IfThere (Torn c.args.at (length c.args.bytes.now))) past (reads (reverse l))) (sym c.in-Err.ensures.err) (torn_at_same c.args.no c.args.at (length c.args.bytes.now) past)
+
+pub returns-in-Err-clause-crash : goal.returns-in-Err-clause-crash
+returns-in-Err-clause-crash c =
+    adds_nothing _ _ _ (torn_at_same c.args.no c.args.at (length c.args.bytes.now)) (follows_none c.args.self.now.contents.changes.items c.write.new.self.changes.items c.in-Err.ensures.err)
+
+pub returns-in-Err-clause-memory_crash : goal.returns-in-Err-clause-memory_crash
+returns-in-Err-clause-memory_crash c = λ memory. follows_none c.args.self.now.contents.changes.items c.write.new.self.changes.items c.in-Err.ensures.err

@@ -1,0 +1,154 @@
+ghost use Rattle.std.specs.Prelude.{◌≡◌, ◌==◌, ◌&&◌, ◌+◌, min, IsTrue, IfOk, None, is_none, false};
+ghost use Rattle.std.specs.List.{list_any, filter_map};
+ghost use Rattle.mem_disk.specs.Calls.{is_at, is_quiet, read_of, write_of};
+ghost use Rattle.shard_disk.specs.Health.{Ages, Failed, IsFresh, TakesOver, last_count};
+
+use crate::Fail;
+use std::alloc::{AllocError, Global};
+
+/// The calls of a disk: which of them fail, how many were made, and how many failed.
+#[derive(Debug, Drop)]
+pub(crate) struct DiskCalls {
+    pub(crate) failing: Vec<Fail>,
+    /// The place from which on each call fails.
+    pub(crate) stop: Option<u64>,
+    pub(crate) next: u64,
+    pub(crate) faults: u64,
+}
+
+/// The same of a reader or writer.
+#[derive(Debug, Drop)]
+pub(crate) struct DeviceCalls {
+    pub(crate) failing: Vec<u64>,
+    pub(crate) next: u64,
+    pub(crate) faults: u64,
+}
+
+impl DiskCalls {
+    ghost use Rattle.mem_disk.specs.HealthOf.{disk_health, device_health};
+
+    pub(crate) fn new(failing: Vec<Fail>) -> DiskCalls
+        ensures failing { result.failing ≡ failing }
+        ensures stop { result.stop ≡ None }
+        ensures next { result.next ≡ 0 }
+        ensures faults { result.faults ≡ 0 }
+    {
+        DiskCalls {
+            failing,
+            stop: None,
+            next: 0,
+            faults: 0,
+        }
+    }
+
+    /// Whether the next call is to fail. It is made, and counted where it fails.
+    pub(crate) fn fails(&mut self) -> bool
+        ensures failed { IsTrue result → Failed (disk_health self.old) (disk_health self.new) }
+        ensures ages { Ages (disk_health self.old) (disk_health self.new) }
+        ensures passed { result ≡ false → disk_health self.new ≡ disk_health self.old }
+        ensures failing { self.new.failing ≡ self.old.failing }
+        ensures stop { self.new.stop ≡ self.old.stop }
+    {
+        let next = self.next;
+        let fails = is_to_fail(&self.failing, self.stop, next);
+        self.next = next.saturating_add(1);
+        if fails {
+            self.faults = self.faults.saturating_add(1);
+        }
+        fails
+    }
+
+    /// Takes over the faults of a reader or writer.
+    pub(crate) fn take_over(&mut self, device: &DeviceCalls)
+        ensures { TakesOver (device_health device.now) (disk_health self.old) (disk_health self.new) }
+    {
+        self.faults = self.faults.saturating_add(device.faults);
+    }
+
+    /// The calls of a reader that the call before handed out.
+    pub(crate) fn of_reader(&self, alloc: Global, maker: u64) -> Result<DeviceCalls, AllocError>
+        ensures fresh { IfOk result (λ calls. IsFresh (disk_health self.now) (device_health calls)) }
+        ensures next { IfOk result (λ calls. calls.next ≡ 0) }
+    {
+        Ok(DeviceCalls {
+            failing: reads_of(alloc, &self.failing, maker)?,
+            next: 0,
+            faults: 0,
+        })
+    }
+
+    /// The calls of a writer that the call before handed out.
+    pub(crate) fn of_writer(&self, alloc: Global, maker: u64) -> Result<DeviceCalls, AllocError>
+        ensures { IfOk result (λ calls. IsFresh (disk_health self.now) (device_health calls)) }
+    {
+        Ok(DeviceCalls {
+            failing: writes_of(alloc, &self.failing, maker)?,
+            next: 0,
+            faults: 0,
+        })
+    }
+}
+
+impl DeviceCalls {
+    ghost use Rattle.mem_disk.specs.HealthOf.{device_health};
+
+    /// Whether the next call is to fail. It is made, and counted where it fails.
+    pub(crate) fn fails(&mut self) -> bool
+        ensures failed { IsTrue result → Failed (device_health self.old) (device_health self.new) }
+        ensures ages { Ages (device_health self.old) (device_health self.new) }
+        ensures passed { result ≡ false → device_health self.new ≡ device_health self.old }
+        ensures next { self.new.next ≡ min (self.old.next + 1) last_count }
+    {
+        let next = self.next;
+        let fails = names_place(&self.failing, next);
+        self.next = next.saturating_add(1);
+        if fails {
+            self.faults = self.faults.saturating_add(1);
+        }
+        fails
+    }
+}
+
+/// Whether the call at this place fails.
+fn is_to_fail(failing: &[Fail], stop: Option<u64>, place: u64) -> bool
+    ensures fails { IsTrue result → (is_none stop && is_quiet failing.now place) ≡ false }
+    ensures passes { result ≡ false → list_any (is_at place) failing.now ≡ false }
+{
+    if names_call(failing, place) {
+        return true;
+    }
+    match stop {
+        Some(stop) => place >= stop,
+        None => false,
+    }
+}
+
+fn names_call(failing: &[Fail], place: u64) -> bool
+    ensures { result ≡ list_any (is_at place) failing.now }
+{
+    failing.iter().any(|fail| fail.is_at(place))
+}
+
+fn names_place(failing: &[u64], place: u64) -> bool
+    ensures { result ≡ list_any (λ at. at == place) failing.now }
+{
+    failing.iter().any(|at| *at == place)
+}
+
+fn reads_of(alloc: Global, failing: &[Fail], maker: u64) -> Result<Vec<u64>, AllocError>
+    ensures { IfOk result (λ places. places.items ≡ filter_map (read_of maker) failing.now) }
+{
+    failing
+        .iter()
+        .filter_map(|fail| fail.read_of(maker))
+        .collect(alloc)
+}
+
+fn writes_of(alloc: Global, failing: &[Fail], maker: u64) -> Result<Vec<u64>, AllocError>
+    ensures { IfOk result (λ places. places.items ≡ filter_map (write_of maker) failing.now) }
+{
+    failing
+        .iter()
+        .filter_map(|fail| fail.write_of(maker))
+        .collect(alloc)
+}
