@@ -1,0 +1,4 @@
+pub mod Append
+pub mod Make
+pub mod Read
+pub mod Settle

@@ -1,0 +1,6 @@
+pub mod Calls
+pub mod Damage
+pub mod Faults
+pub mod Log
+pub mod Records
+pub mod Sum

@@ -1,0 +1,16 @@
+//! A list of records in one file of a disk. A record is added whole or not at all, whenever a crash comes.
+#![tactic(auto)]
+
+mod decode;
+mod fault;
+mod frame;
+mod log;
+mod read;
+
+pub use decode::one_list;
+pub use fault::LogFault;
+pub use frame::frame_record;
+pub use log::Log;
+
+#[cfg(test)]
+mod tests;
