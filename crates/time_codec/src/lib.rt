@@ -1,0 +1,15 @@
+//! A block's times as bytes: the first, and how far each is from the one before, in units of a power of ten.
+//! Each list has one coding, and nothing else is read.
+#![tactic(auto)]
+
+mod coding;
+mod differences;
+mod form;
+mod reading;
+mod words;
+
+pub use coding::encode;
+pub use reading::decode;
+
+#[cfg(test)]
+mod tests;
