@@ -1,0 +1,18 @@
+//! Lists of values of one kind as bytes: numbers by the steps from one to the next, Booleans by bits. Each list has one
+//! spelling, and no other bytes are decoded.
+#![tactic(auto)]
+
+mod bits;
+mod decoder;
+mod encoder;
+mod form;
+mod integers;
+mod law;
+mod numbers;
+#[cfg(test)]
+mod tests;
+mod words;
+
+pub use decoder::decode;
+pub use encoder::encode;
+pub use law::one_spelling;
