@@ -1,0 +1,6 @@
+pub mod RangeLemmas
+pub mod CoverLemmas
+pub mod KeptLemmas
+pub mod FewestLemmas
+pub mod FormatLemmas
+pub mod ReadLemmas

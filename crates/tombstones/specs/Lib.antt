@@ -1,0 +1,5 @@
+pub mod Ranges
+pub mod Covered
+pub mod Format
+pub mod Kept
+pub mod Raw

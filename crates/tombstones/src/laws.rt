@@ -1,0 +1,8 @@
+ghost use Rattle.std.specs.Prelude.{◌≡◌, ℤ, ℕ, List, ◌↔◌};
+ghost use Rattle.tombstones.specs.Covered.{Tomb, Hides, AreFewest};
+
+/// Two lists of fewest tombstones that hide the same are one list. So sets that hide the same are written alike.
+pub fn one_form()
+    ensures { (some others : List Tomb) → AreFewest some → AreFewest others
+        → ((key : List ℕ) (time : ℤ) → Hides some key time ↔ Hides others key time) → some ≡ others }
+{}
