@@ -1,0 +1,4 @@
+pub mod FormatLemmas
+pub mod EntryLemmas
+pub mod RowLemmas
+pub mod ReadLemmas
