@@ -1,0 +1,7 @@
+use Rattle.std.proofs.Common.{◌≡◌, length}
+use Rattle.tsdb_types.specs.declared.value.Kind.TheVariants.{Integer}
+use Rattle.value_codec.specs.Coding.{AreOf}
+use Rattle.codec_bench.proofs.values.integers.Given as goal
+
+abbrev pub invariant-loop : goal.invariant-loop
+invariant-loop l = AreOf Integer l.values.items × (length l.values.items ≡ l.counter)
