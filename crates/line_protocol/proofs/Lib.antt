@@ -1,0 +1,7 @@
+mod BatchLemmas
+mod HeadLemmas
+mod KindLemmas
+mod LineLemmas
+mod NumberLemmas
+mod PartLemmas
+mod ReadingLemmas

@@ -1,0 +1,77 @@
+use Rattle.std.proofs.Common.{◌≡◌, ℕ, ◌+◌, List, [], ◌∷◌, ◌++◌, length, Ok, Err, sym, ap, subst, ◌∙◌, arith}
+use Rattle.std.proofs.lemmas.List.{nil_from_length}
+use Rattle.tsdb_types.specs.declared.point.Point.{Point}
+use Rattle.line_protocol.specs.declared.fault.LineFault.{LineFault}
+use Rattle.line_protocol.specs.Batches.{Points, FaultGives, lines_of, points_before, LinesAre, TextIs}
+use Rattle.line_protocol.specs.Kinds.{Seen, seen_of, nothing_seen}
+use Rattle.line_protocol.specs.Lines.{AnyLineIs}
+use Rattle.line_protocol.specs.Parts.{lines_behind, trimmed}
+use Rattle.line_protocol.proofs.BatchLemmas.{points_before-nil, points_before-both, points_before-end, lines-cut, lines-read, last-read, line-refused, same, fault-lines}
+use Rattle.line_protocol.proofs.KindLemmas.{seen-same}
+use Rattle.line_protocol.proofs.PartLemmas.{line_rest-le}
+use Rattle.line_protocol.proofs.batch.read_lines.Goals as goal
+
+pub lines-init : goal.lines-init
+lines-init c =
+    let bytes = c.args.bytes.now in
+    let moment = c.args.moment in
+    let nothing : seen_of c.new-kinds.result ≡ nothing_seen = seen-same (seen_of c.new-kinds.result) nothing_seen c.new-kinds.ensures in
+    record {
+      whole = λ others are.
+          subst (λ (r : Points). TextIs bytes moment r) (sym (ap (λ (ps : List Point). points_before ps others) c.new-points.ensures.items ∙ points_before-nil others))
+          (subst (λ (s : Seen). LinesAre moment (lines_of bytes) 1 s others) nothing are);
+      few = omega arith;
+    }
+
+pub lines-preserved : goal.lines-preserved
+lines-preserved c =
+    let moment = c.args.moment in
+    let at = c.lines in
+    let line = c.cut_line.result.0.now in
+    let rest = c.cut_line.result.1.now in
+    let behind = c.in-Some.behind.now in
+    let first = lines-cut at.left.now line rest c.cut_line.ensures.front c.cut_line.ensures.rest in
+    let next : lines_of at.left.now ≡ line ∷ lines_of behind = first ∙ ap (λ (t : List ℕ). line ∷ lines_behind t) c.in-Some.ensures.cases.0 in
+    let added = c.in-Ok.ensures.ok in
+    let after = seen_of c.read_any_line.new.kinds in
+    let is = subst (λ (t : List ℕ). AnyLineIs (seen_of at.kinds) moment t (Ok (record { points = added.0; seen = after }))) c.trimmed.ensures added.2 in
+    record {
+      whole = λ others are.
+          subst (λ (r : Points). TextIs c.args.bytes.now moment r) (points_before-both at.points.items added.0 others ∙ ap (λ (ps : List Point). points_before ps others) (sym added.1))
+          (at.invariant.whole (points_before added.0 others) (lines-read moment at.left.now line behind at.number (seen_of at.kinds) after added.0 others next is are));
+      few = omega (arith, at.invariant.few, ap (λ (t : List ℕ). length t) c.cut_line.ensures.rest, line_rest-le at.left.now, c.in-Some.ensures.cases.1);
+    }
+
+pub lines-smaller : goal.lines-smaller
+lines-smaller c = omega (arith, ap (λ (t : List ℕ). length t) c.cut_line.ensures.rest, line_rest-le c.lines.left.now, c.in-Some.ensures.cases.1)
+
+pub overflow_add-number : goal.overflow_add-number
+overflow_add-number c = omega (arith, c.requires, c.lines.invariant.few, ap (λ (t : List ℕ). length t) c.cut_line.ensures.rest, line_rest-le c.lines.left.now, c.in-Some.ensures.cases.1)
+
+pub returns-in-Err : goal.returns-in-Err
+returns-in-Err c =
+    let moment = c.args.moment in
+    let at = c.lines in
+    let line = c.cut_line.result.0.now in
+    let rest = c.cut_line.result.1.now in
+    let first = lines-cut at.left.now line rest c.cut_line.ensures.front c.cut_line.ensures.rest in
+    subst (λ (f : LineFault). FaultGives f (TextIs c.args.bytes.now moment)) (sym c.fault_of.ensures)
+    (fault-lines c.in-Err.refusal at.number (λ code. AnyLineIs (seen_of at.kinds) moment c.trimmed.result.now (Err code)) (TextIs c.args.bytes.now moment)
+    (λ code is.
+    at.invariant.whole (Err (same code at.number))
+    (line-refused moment at.left.now line (lines_behind rest) at.number (seen_of at.kinds) code first
+    (subst (λ (t : List ℕ). AnyLineIs (seen_of at.kinds) moment t (Err code)) c.trimmed.ensures is)))
+    c.in-Err.ensures.refused)
+
+pub returns-in-None : goal.returns-in-None
+returns-in-None c =
+    let moment = c.args.moment in
+    let at = c.lines in
+    let line = c.cut_line.result.0.now in
+    let rest = c.cut_line.result.1.now in
+    let first = lines-cut at.left.now line rest c.cut_line.ensures.front c.cut_line.ensures.rest in
+    let last : lines_of at.left.now ≡ line ∷ [] = first ∙ ap (λ (t : List ℕ). line ∷ lines_behind t) (nil_from_length rest c.in-None.ensures.cases) in
+    let added = c.in-Ok.ensures.ok in
+    let is = subst (λ (t : List ℕ). AnyLineIs (seen_of at.kinds) moment t (Ok (record { points = added.0; seen = seen_of c.read_any_line.new.kinds }))) c.trimmed.ensures added.2 in
+    subst (λ (r : Points). TextIs c.args.bytes.now moment r) (points_before-end at.points.items added.0 ∙ ap (λ (ps : List Point). let r : Points = Ok ps in r) (sym added.1))
+    (at.invariant.whole (points_before added.0 (Ok [])) (last-read moment at.left.now line at.number (seen_of at.kinds) (seen_of c.read_any_line.new.kinds) added.0 last is))

@@ -1,0 +1,10 @@
+use Rattle.std.proofs.Common.{◌≡◌, false, length}
+use Rattle.line_protocol.specs.Fields.{fields_of, prefixed}
+use Rattle.line_protocol.specs.Parts.{parts}
+use Rattle.line_protocol.proofs.field.read_fields.Given as goal
+
+abbrev pub invariant-parts : goal.invariant-parts
+invariant-parts l = prefixed l.fields.items (fields_of (parts 44 false l.left)) ≡ fields_of (parts 44 false l.text)
+
+abbrev pub decreases-parts : goal.decreases-parts
+decreases-parts l = length l.left

@@ -1,0 +1,20 @@
+use Rattle.std.proofs.Common.{◌≡◌, false, List, ℕ, map, sym, ap, refl, ◌∙◌}
+use Rattle.std.proofs.lemmas.Bool.{false≢true}
+use Rattle.line_protocol.specs.Heads.{tag_of}
+use Rattle.line_protocol.specs.Parts.{parts_behind}
+use Rattle.line_protocol.proofs.HeadLemmas.{differ-stable, head-keys, keys-head}
+use Rattle.line_protocol.proofs.head.keys_differ.Goals as goal
+
+pub returns-in-Ok : goal.returns-in-Ok
+returns-in-Ok c =
+    let same = c.new.ensures ∙ c.in_ok-tags.ensures ∙ ap (λ (t : List ℕ). map (tag_of false) (parts_behind 44 t)) c.cut.ensures.rest in (
+      λ _. head-keys c.args.head.now c.new.result same (differ-stable c.new.result (λ not. let is = c.in-Ok.ensures.duplicate_tag.1 not in cc)),
+      λ _. refl,
+    )
+
+pub returns-in-Err-DuplicateTag : goal.returns-in-Err-DuplicateTag
+returns-in-Err-DuplicateTag c =
+    let same = c.new.ensures ∙ c.in_ok-tags.ensures ∙ ap (λ (t : List ℕ). map (tag_of false) (parts_behind 44 t)) c.cut.ensures.rest in (
+      λ e. absurd (false≢true e),
+      λ differ. absurd (c.in-Err-DuplicateTag.ensures.duplicate_tag.0 (cc) (keys-head c.args.head.now c.new.result same differ)),
+    )

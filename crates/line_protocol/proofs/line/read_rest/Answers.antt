@@ -1,0 +1,35 @@
+use Rattle.std.proofs.Common.{◌≡◌, Bool, true, ◌||◌, Ok, List, Result, subst}
+use Rattle.std.proofs.lemmas.Result.{err_from_is_err_and}
+use Rattle.line_protocol.specs.declared.fault.LineCode.{LineCode}
+use Rattle.line_protocol.specs.declared.fault.LineCode.TheVariants.{ReservedName}
+use Rattle.line_protocol.specs.declared.field.Field.{Field}
+use Rattle.line_protocol.specs.Kinds.{Seen, seen_of, note_all}
+use Rattle.line_protocol.specs.Lines.{has_time_field, keys_step}
+use Rattle.line_protocol.specs.Readings.{Refuses, unless}
+use Rattle.line_protocol.proofs.LineLemmas.{rest-ok, rest-kinds}
+use Rattle.line_protocol.proofs.line.read_rest.Goals as goal
+
+abbrev Step : Result Bool LineCode → Type 0
+Step step = step ≡ Ok true
+
+pub returns : goal.returns
+returns c =
+    let head = c.args.head.now in
+    let seen = seen_of c.args.kinds.now in
+    rest-ok seen (seen_of c.note_all.new.self) c.args.moment head.measurement head.reserved head.series c.args.fields.now c.args.time.now c.in_ok-fields.fields.items c.in_ok-time.time
+    c.in_ok-fields.ensures c.in_ok-time.ensures
+    (subst (λ (fs : List Field). Step (unless (head.reserved || has_time_field fs) ReservedName)) c.as_slice.ensures.value c.in_ok-names_step.ensures)
+    (subst (λ (fs : List Field). Step (keys_step head.series fs)) c.as_slice-2.ensures.value c.in_ok-keys_step.ensures)
+    (subst (λ (fs : List Field). let r : Result Seen LineCode = note_all seen head.measurement fs in r ≡ Ok (seen_of c.note_all.new.self)) c.as_slice-3.ensures.value c.in_ok-note_all.ensures)
+
+pub returns-in_err-note_all : goal.returns-in_err-note_all
+returns-in_err-note_all c =
+    let head = c.args.head.now in
+    let seen = seen_of c.args.kinds.now in
+    let p = err_from_is_err_and c.from_residual-in_err-note_all.result c.from_residual-in_err-note_all.ensures.1 in
+    rw (p.1, p.2)
+    (rest-kinds _ seen c.args.moment head.measurement head.reserved head.series c.args.fields.now c.args.time.now c.in_ok-fields.fields.items c.as_slice-3.result.now c.in_ok-time.time
+    c.in_ok-fields.ensures c.in_ok-time.ensures
+    (subst (λ (fs : List Field). Step (unless (head.reserved || has_time_field fs) ReservedName)) c.as_slice.ensures.value c.in_ok-names_step.ensures)
+    (subst (λ (fs : List Field). Step (keys_step head.series fs)) c.as_slice-2.ensures.value c.in_ok-keys_step.ensures)
+    c.as_slice-3.ensures.value c.in_err-note_all.ensures)

@@ -1,0 +1,10 @@
+pub mod Batches
+pub mod Fields
+pub mod Heads
+pub mod Kinds
+pub mod Lines
+pub mod Names
+pub mod Numbers
+pub mod Parts
+pub mod Readings
+pub mod Values

@@ -1,0 +1,102 @@
+ghost use Rattle.std.specs.Prelude.{◌≡◌, ◌↔◌, ℕ, ◌≤◌, length, Err, IfOk, IsTrue};
+ghost use Rattle.std.specs.Str.{IsUtf8};
+ghost use Rattle.line_protocol.specs.declared.fault.LineCode.{LineCode};
+ghost use Rattle.line_protocol.specs.Batches.{Lines, IsFault, TextIs, LinesGive};
+ghost use Rattle.line_protocol.specs.Batches as spec;
+
+use crate::cut::{cut_line, trimmed};
+use crate::fault::{LineCode, LineFault, Refusal};
+use crate::kinds::Kinds;
+use crate::line::read_any_line;
+use std::alloc::Global;
+use tsdb_types::{Batch, Point, Time};
+
+const MOST_BYTES: usize = 16777216;
+
+const MOST_LINES: usize = 5000;
+
+/// Reads a text of lines, of at most 16,777,216 bytes and 5,000 lines, to the batch of its points. A line without a time
+/// has the moment, in nanoseconds. A fault names the first line with one, numbered from 1, or 0 where the whole text is meant.
+pub fn read_batch(alloc: Global, bytes: &[u8], moment: Time) -> Result<Batch, LineFault>
+    requires { IsUtf8 bytes.now }
+    ensures ok { IfOk result (Lines bytes.now moment) }
+    ensures refused { (code : LineCode) (line : ℕ) → result ≡ Err (LineFault.Line code line) → IsFault bytes.now moment (record { code = code; line = line }) }
+{
+    if is_too_long(bytes) {
+        return Err(LineFault::Line {
+            code: LineCode::BatchTooLong,
+            line: 0,
+        });
+    }
+    match read_lines(alloc, bytes, moment) {
+        Err(fault) => Err(fault),
+        Ok(points) => match Batch::new(points) {
+            Some(batch) => Ok(batch),
+            None => Err(LineFault::Line {
+                code: LineCode::NoPoints,
+                line: 0,
+            }),
+        },
+    }
+}
+
+fn is_too_long(bytes: &[u8]) -> bool
+    ensures { IsTrue result ↔ spec.IsTooLong bytes.now }
+{
+    bytes.len() > MOST_BYTES || line_count(bytes) > MOST_LINES
+}
+
+// A newline ends a line; what stands behind the last is one more, where anything does.
+fn line_count(bytes: &[u8]) -> usize
+    ensures { result ≡ spec.line_count bytes.now }
+{
+    let ended = bytes.iter().filter(|byte| **byte == b'\n').count();
+    if is_open(bytes) {
+        return ended + 1;
+    }
+    ended
+}
+
+fn is_open(bytes: &[u8]) -> bool
+    ensures { result ≡ spec.is_open bytes.now }
+{
+    match bytes.last() {
+        None => false,
+        Some(last) => *last != b'\n',
+    }
+}
+
+// The points of all lines, or the first fault.
+fn read_lines(alloc: Global, bytes: &[u8], moment: Time) -> Result<Vec<Point>, LineFault>
+    requires { length bytes.now ≤ 16777216 }
+    ensures { LinesGive (λ points. points.items) result (TextIs bytes.now moment) }
+{
+    let mut kinds = Kinds::new(alloc);
+    let mut points = Vec::new(alloc);
+    let mut number: u32 = 1;
+    let mut left = bytes;
+    'lines: loop {
+        let (line, rest) = cut_line(left);
+        match read_any_line(alloc, trimmed(line), moment, &mut kinds, &mut points) {
+            Ok(()) => {}
+            Err(refusal) => return Err(fault_of(refusal, number)),
+        }
+        match rest.split_first() {
+            None => return Ok(points),
+            Some((_newline, behind)) => {
+                left = behind;
+                number += 1;
+            }
+        }
+    }
+}
+
+// How the text is refused whose line with this number is refused so.
+fn fault_of(refusal: Refusal, line: u32) -> LineFault
+    ensures { result ≡ spec.fault_of refusal line }
+{
+    match refusal {
+        Refusal::Code(code) => LineFault::Line { code, line },
+        Refusal::Memory => LineFault::Memory,
+    }
+}

@@ -1,0 +1,18 @@
+//! Line protocol: a text of lines is read to a batch of points, or refused with the first line's one cause.
+#![tactic(auto)]
+
+mod batch;
+mod cut;
+mod fault;
+mod field;
+mod head;
+mod kinds;
+mod line;
+mod name;
+mod number;
+#[cfg(test)]
+mod tests;
+mod value;
+
+pub use batch::read_batch;
+pub use fault::{LineCode, LineFault};
