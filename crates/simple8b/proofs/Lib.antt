@@ -3,3 +3,4 @@ pub mod Selecting
 pub mod Narrowest
 pub mod Packing
 pub mod Spelling
+pub mod Wide

@@ -54,11 +54,11 @@ pub payload_packed : (selector : ℕ) (values : List ℕ) → 2 ≤ selector →
 unfolding payload
 payload_packed selector values high = cond-false (ltb selector 2) _ _ (le-ltb selector 2 high)
 
-values_in_ones : (word : ℕ) → selector_in word < 2 → values_in word ≡ replicate (count_of (selector_in word)) 1
+pub values_in_ones : (word : ℕ) → selector_in word < 2 → values_in word ≡ replicate (count_of (selector_in word)) 1
 unfolding values_in
 values_in_ones word low = cond-true (ltb (selector_in word) 2) _ _ (lt-ltb (selector_in word) 2 low)
 
-values_in_packed : (word : ℕ) → 2 ≤ selector_in word → values_in word ≡ unpacked (bits_of (selector_in word)) (count_of (selector_in word)) word
+pub values_in_packed : (word : ℕ) → 2 ≤ selector_in word → values_in word ≡ unpacked (bits_of (selector_in word)) (count_of (selector_in word)) word
 unfolding values_in
 values_in_packed word high = cond-false (ltb (selector_in word) 2) _ _ (le-ltb (selector_in word) 2 high)
 

@@ -1,5 +1,5 @@
 -- Facts on the sixteen selectors, each found by a test of all of them.
-use Rattle.std.proofs.Common.{◌≡◌, ℕ, zero, suc, ◌+◌, ◌*◌, ◌^◌, ◌<◌, ◌≤◌, Bool, true, ◌||◌, leb, ltb, ⊎_elim, ap, sym, ◌∙◌, refl, arith}
+use Rattle.std.proofs.Common.{◌≡◌, ℕ, zero, suc, ◌+◌, ◌-◌, ◌*◌, ◌^◌, ◌<◌, ◌≤◌, Bool, true, ◌||◌, leb, ltb, ⊎_elim, ap, sym, ◌∙◌, refl, arith}
 use Rattle.std.proofs.lemmas.Bool.{agree_below, agree_below_at, leb-true, le-ltb, cases_lt}
 use Rattle.std.proofs.lemmas.Nat.{pow_below}
 use Rattle.simple8b.specs.Words.{count_of, bits_of}
@@ -61,3 +61,24 @@ unfolding bits_of
 ones_bits zero low = refl
 ones_bits (suc zero) low = refl
 ones_bits (suc (suc selector)) low = absurd (omega arith)
+
+-- a pair of numbers below n of which the lower comes first
+met_by_pairs : (test : ℕ → ℕ → Bool) (n i j : ℕ) → agree_below (λ b. agree_below (λ a. test a b) (λ _. true) b) (λ _. true) n ≡ true → i < j → j < n → test i j ≡ true
+met_by_pairs test n i j all below h = met_below (λ a. test a j) j i (met_below (λ b. agree_below (λ a. test a b) (λ _. true) b) n j all h) below
+
+-- a higher selector holds fewer values
+pub count_falls : (i j : ℕ) → i < j → j < 16 → count_of j ≤ count_of i
+unfolding count_of
+count_falls i j below h = leb-true (count_of j) (count_of i) (met_by_pairs (λ a b. leb (count_of b) (count_of a)) 16 i j refl below h)
+
+-- and gives each no fewer bits
+pub bits_least : (i j : ℕ) → i ≤ j → j < 16 → bits_of i ≤ bits_of j
+unfolding bits_of
+bits_least i j within h =
+    ⊎_elim
+    (λ below. leb-true (bits_of i) (bits_of j) (met_by_pairs (λ a b. leb (bits_of a) (bits_of b)) 16 i j refl below h))
+    (λ same. let e : i ≡ j = omega arith in omega (arith, ap bits_of e))
+    (cases_lt i j)
+
+pub bits_before : (selector : ℕ) → 1 ≤ selector → selector < 16 → bits_of (selector - 1) ≤ bits_of selector
+bits_before selector some h = bits_least (selector - 1) selector (omega arith) h

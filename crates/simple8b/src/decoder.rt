@@ -3,7 +3,8 @@ ghost use Rattle.simple8b.specs.Words.{words_of, count_of, bits_of};
 ghost use Rattle.simple8b.specs.Unpacked.{selector_in, unpacked, values_in, values_of};
 
 use crate::WordsFault;
-use crate::selector::{first_selector, held, used};
+use crate::first::is_first;
+use crate::selector::{held, used};
 use std::alloc::{AllocError, Global};
 
 /// The list of `n` values whose words these are. Each value is below 2^60.
@@ -117,11 +118,13 @@ fn is_spelled(values: &[u64], words: &[u64]) -> bool
 {
     let mut rest = values;
     for word in words {
-        let selector = (*word >> 60) as usize;
-        if first_selector(rest) != selector || has_loose_bits(*word) {
+        if !is_first(*word, rest) {
             return false;
         }
-        rest = rest.split_at(held(selector)).1;
+        if has_loose_bits(*word) {
+            return false;
+        }
+        rest = rest.split_at(held((*word >> 60) as usize)).1;
     }
     true
 }

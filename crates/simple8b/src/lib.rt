@@ -6,6 +6,7 @@ mod counts;
 mod decoder;
 mod encoder;
 mod fault;
+mod first;
 mod law;
 mod selector;
 #[cfg(test)]

@@ -1,2 +1,3 @@
 pub mod Crc32Lemmas
 pub mod UvarintLemmas
+pub mod WordsLemmas

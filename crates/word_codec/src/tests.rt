@@ -86,3 +86,18 @@ fn checksums_are_the_published_ones(rt: HostRuntime) {
         assert_eq!(rt; crc32(text), sum, "{text:?}");
     }
 }
+
+/// Two words with their bytes, the highest first, and bytes of which the last word is cut.
+#[test]
+fn words_have_eight_bytes(rt: HostRuntime) -> Result<(), Fail> {
+    let words = [0x0102_0304_0506_0708, 0xff];
+    let bytes = [1, 2, 3, 4, 5, 6, 7, 8, 0, 0, 0, 0, 0, 0, 0, 0xff];
+    let mut out = Vec::new(rt.alloc());
+    write_words(&mut out, &words)?;
+    assert_eq!(rt; out.as_slice(), bytes.as_slice());
+    let read = read_words(rt.alloc(), &bytes)?.ok_or("no words")?;
+    assert_eq!(rt; read.as_slice(), words.as_slice());
+    let (cut, _) = bytes.split_at(15);
+    assert!(rt; read_words(rt.alloc(), cut)?.is_none());
+    Ok(())
+}

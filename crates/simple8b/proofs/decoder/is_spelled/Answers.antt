@@ -1,42 +1,45 @@
-use Rattle.std.proofs.Common.{◌≡◌, ◌<◌, ◌+◌, ◌*◌, ◌%◌, ◌^◌, ◌∷◌, ℕ, List, drop, get_or, arith, refl, sym, ◌∙◌, ap}
-use Rattle.std.proofs.lemmas.Bool.{not-false, not-true, ltb-true, ltb-false, false≢true}
+use Rattle.std.proofs.Common.{◌≡◌, ◌<◌, ◌+◌, ◌*◌, ◌%◌, ◌^◌, ◌∷◌, ℕ, List, true, false, not, drop, get_or, arith, refl, sym, ◌∙◌, ap}
+use Rattle.std.proofs.lemmas.Bool.{not-false, not-true, ltb-true, ltb-false, eqb-true, eq-eqb, false≢true}
 use Rattle.std.proofs.lemmas.List.{drop_more, at_drop_all}
 use Rattle.simple8b.specs.Words.{words_of, selector_of, count_of, bits_of}
 use Rattle.simple8b.specs.Unpacked.{selector_in, values_of}
-use Rattle.simple8b.proofs.Tables.{count_some}
-use Rattle.simple8b.proofs.Spelling.{read_at, read_some, read_behind, not_first, not_tight, rest_spelled, values_of-nil, words_of-nil}
+use Rattle.simple8b.proofs.Spelling.{read_at, read_some, read_front, read_behind, not_first, not_tight, rest_spelled, values_of-nil, words_of-nil}
 use Rattle.simple8b.proofs.decoder.is_spelled.Goals as goal
-use Rattle.simple8b.proofs.decoder.is_spelled.Goals.{then-first_selector-selector-via-then-first_selector-selector, then-first_selector-selector-via-else-first_selector-selector+then-has_loose_bits}
 
 tails : (word : ℕ) (one two : List ℕ) → word ∷ one ≡ word ∷ two → one ≡ two
 tails word one two same = cc
 
-pub first_selector-requires-clause-some : goal.first_selector-requires-clause-some
-first_selector-requires-clause-some c =
+pub is_first-requires-clause-own : goal.is_first-requires-clause-own
+is_first-requires-clause-own c =
     let at = c.loop-word in
-    let read = read_at at.rest.now c.args.words.now at.word-index c.loop-word-test.true (λ k. (c.type_inv.words k).fits) at.invariant.values in
-    omega (arith, read_some _ _ _ read, count_some _ read.selector)
+    read_front _ _ _ (read_at at.rest.now c.args.words.now at.word-index c.loop-word-test.true (λ k. (c.type_inv.words k).fits) at.invariant.values)
 
-pub first_selector-requires-clause-narrow : goal.first_selector-requires-clause-narrow
-first_selector-requires-clause-narrow c =
+pub is_first-requires-clause-narrow : goal.is_first-requires-clause-narrow
+is_first-requires-clause-narrow c =
     let at = c.loop-word in
     (read_at at.rest.now c.args.words.now at.word-index c.loop-word-test.true (λ k. (c.type_inv.words k).fits) at.invariant.values).narrow
 
-pub returns-then-first_selector-selector : goal.returns-then-first_selector-selector
-returns-then-first_selector-selector c =
+pub returns-then-not-is_first : goal.returns-then-not-is_first
+returns-then-not-is_first c =
     let at = c.loop-word in
     let words = c.args.words.now in
     let read = read_at at.rest.now words at.word-index c.loop-word-test.true (λ k. (c.type_inv.words k).fits) at.invariant.values in
     let here : words_of c.args.values.now ≡ words → words_of at.rest.now ≡ get_or words at.word-index 0 ∷ drop (at.word-index + 1) words =
     λ spelled. at.invariant.forth spelled ∙ drop_more words at.word-index 0 c.loop-word-test.true in (
       λ is. absurd (false≢true is),
-      elim c.then-first_selector-selector.branch [
-        | then-first_selector-selector-via-then-first_selector-selector w ↦ λ spelled.
-            absurd (not_first _ _ _ read (λ same. w.if-first_selector-selector.true (c.first_selector.ensures.first ∙ same)) (here spelled))
-        | then-first_selector-selector-via-else-first_selector-selector+then-has_loose_bits w ↦ λ spelled.
-            absurd (not_tight _ _ _ read (sym c.first_selector.ensures.first ∙ w.if-first_selector-selector.false)
-            (ltb-false _ _ (not-true _ (sym w.has_loose_bits.ensures ∙ w.if-has_loose_bits.true))) (here spelled))
-      ],
+      λ spelled. absurd (not_first _ _ _ read (λ same. false≢true (sym c.if-not-is_first.true ∙ c.is_first.ensures ∙ eq-eqb _ _ same)) (here spelled)),
+    )
+
+pub returns-then-has_loose_bits : goal.returns-then-has_loose_bits
+returns-then-has_loose_bits c =
+    let at = c.loop-word in
+    let words = c.args.words.now in
+    let read = read_at at.rest.now words at.word-index c.loop-word-test.true (λ k. (c.type_inv.words k).fits) at.invariant.values in
+    let here : words_of c.args.values.now ≡ words → words_of at.rest.now ≡ get_or words at.word-index 0 ∷ drop (at.word-index + 1) words =
+    λ spelled. at.invariant.forth spelled ∙ drop_more words at.word-index 0 c.loop-word-test.true in
+    let first : selector_of at.rest.now ≡ selector_in (get_or words at.word-index 0) = eqb-true _ _ (sym c.is_first.ensures ∙ c.if-not-is_first.false) in (
+      λ is. absurd (false≢true is),
+      λ spelled. absurd (not_tight _ _ _ read first (ltb-false _ _ (not-true _ (sym c.has_loose_bits.ensures ∙ c.if-has_loose_bits.true))) (here spelled)),
     )
 
 pub split_at-requires : goal.split_at-requires
@@ -53,7 +56,7 @@ loop-word-preserved c =
     let behind = drop (at.word-index + 1) words in
     let word : ℕ = get_or words at.word-index 0 in
     let read = read_at rest words at.word-index c.loop-word-test.true (λ k. (c.type_inv.words k).fits) at.invariant.values in
-    let first : selector_of rest ≡ selector_in word = sym c.first_selector.ensures.first ∙ c.if-first_selector-selector.false in
+    let first : selector_of rest ≡ selector_in word = eqb-true _ _ (sym c.is_first.ensures ∙ c.if-not-is_first.false) in
     let tight : word % 2 ^ 60 < 2 ^ (bits_of (selector_in word) * count_of (selector_in word)) =
     ltb-true _ _ (not-false _ (sym c.has_loose_bits.ensures ∙ c.if-has_loose_bits.false)) in
     let next : c.split_at.result.1.now ≡ drop (count_of (selector_in word)) rest = c.split_at.ensures.back ∙ ap (λ (n : ℕ). drop n rest) c.held.ensures.count in
