@@ -1,3 +1,5 @@
+pub mod FollowingLemmas
 pub mod ReadingLemmas
+pub mod ScaleLemmas
 pub mod TimesLemmas
 pub mod WordsLemmas

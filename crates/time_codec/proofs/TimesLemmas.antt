@@ -1,15 +1,13 @@
 -- The coded times of a list, taken apart.
-use Rattle.std.proofs.Common.{◌≡◌, ℕ, zero, suc, ◌+◌, ◌-◌, ◌*◌, ◌/◌, ◌%◌, ◌^◌, ◌<◌, ◌≤◌, Bool, true, false, ◌&&◌, cond, eqb, ltb, List, [], ◌∷◌, ◌++◌, inl, inr, length, map, drop, get_or, refl, sym, ◌∙◌, ap, arith, append_assoc, div-le_self}
+use Rattle.std.proofs.Common.{◌≡◌, ℕ, zero, suc, ◌+◌, ◌*◌, ◌/◌, ◌%◌, ◌^◌, ◌<◌, ◌≤◌, Bool, true, false, ◌&&◌, cond, eqb, ltb, List, [], ◌∷◌, ◌++◌, inl, inr, length, map, drop, get_or, refl, sym, ◌∙◌, ap, subst, arith, append_assoc, div-le_self}
 use Rattle.std.specs.Prelude.{All, ℤ, pos, negsuc, ◌-ℤ◌, ◌<ℤ◌, unsigned_abs, slice_index}
 use Rattle.std.specs.List.{flat_map, list_all}
 use Rattle.std.proofs.lemmas.List.Folds.{list_all-map}
 use Rattle.word_codec.specs.Uvarint.{uvarint}
 use Rattle.simple8b.specs.Words.{words_of}
 use Rattle.std.specs.Cmp.{first_so, second_so}
-use Rattle.std.specs.Cmp.Derive.{both_true}
 use Rattle.std.specs.Int.{to_be_bytes, cast_unsigned, w64}
-use Rattle.std.proofs.lemmas.Bool.{eqb-true, eq-eqb, ltb-true, lt-ltb, cond-true, cond-false, cases_Bool}
-use Rattle.std.proofs.lemmas.Nat.{div-add-mod'}
+use Rattle.std.proofs.lemmas.Bool.{eqb-true, ltb-true, lt-ltb, cond-true, cond-false, cases_Bool}
 use Rattle.std.proofs.Math.Nat.{div-lt_iff_lt-mul}
 use Rattle.std.specs.Cmp.{both_ways}
 use Rattle.std.proofs.lemmas.List.{drop_more, length-map, get_or-map}
@@ -18,54 +16,9 @@ use Rattle.std.proofs.lemmas.Int.{ints}
 use Rattle.tsdb_types.specs.Moments.{IsMoment}
 use Rattle.time_codec.specs.declared.form.Form.{Form}
 use Rattle.time_codec.specs.declared.form.Form.TheVariants.{Raw, Packed, RunLength}
-use Rattle.time_codec.specs.Times.{AreTimes, Ascend, differences, divides_all, greatest_exponent, exponent_of, scaled, all_same, form_of, exponent_in, number_of, body_of, spelled, coded_from, coded_times}
-
--- ---- the scale
-
-pub greatest_at : (exponent : ℕ) (steps : List ℕ) → 0 < exponent → divides_all exponent steps ≡ true → greatest_exponent exponent steps ≡ exponent
-unfolding greatest_exponent
-greatest_at zero steps some all = absurd (omega arith)
-greatest_at (suc most) steps some all = cond-true (divides_all (suc most) steps) (suc most) (greatest_exponent most steps) all
-
-pub greatest_below : (exponent : ℕ) (steps : List ℕ) → 0 < exponent → divides_all exponent steps ≡ false → greatest_exponent exponent steps ≡ greatest_exponent (exponent - 1) steps
-unfolding greatest_exponent
-greatest_below zero steps some none = absurd (omega arith)
-greatest_below (suc most) steps some none =
-    let less : most ≡ suc most - 1 = omega arith in
-    cond-false (divides_all (suc most) steps) (suc most) (greatest_exponent most steps) none ∙ ap (λ e. greatest_exponent e steps) less
-
-pub greatest_zero : (steps : List ℕ) → greatest_exponent 0 steps ≡ 0
-unfolding greatest_exponent
-greatest_zero steps = refl
-
-pub greatest_most : (most : ℕ) (steps : List ℕ) → greatest_exponent most steps ≤ most
-unfolding greatest_exponent
-greatest_most zero steps = omega arith
-greatest_most (suc most) steps = elim (cases_Bool (divides_all (suc most) steps)) [
-  | inl all ↦ omega (arith, cond-true (divides_all (suc most) steps) (suc most) (greatest_exponent most steps) all)
-  | inr none ↦ omega (arith, cond-false (divides_all (suc most) steps) (suc most) (greatest_exponent most steps) none, greatest_most most steps)
-]
-
-one_divides : (steps : List ℕ) → divides_all 0 steps ≡ true
-one_divides [] = refl
-one_divides (step ∷ steps) = let none : step % 1 ≡ 0 = omega arith in ap (λ n. eqb n 0 && divides_all 0 steps) none ∙ one_divides steps
-
-greatest_divides : (most : ℕ) (steps : List ℕ) → divides_all (greatest_exponent most steps) steps ≡ true
-unfolding greatest_exponent
-greatest_divides zero steps = one_divides steps
-greatest_divides (suc most) steps = elim (cases_Bool (divides_all (suc most) steps)) [
-  | inl all ↦ ap (λ e. divides_all e steps) (cond-true (divides_all (suc most) steps) (suc most) (greatest_exponent most steps) all) ∙ all
-  | inr none ↦ ap (λ e. divides_all e steps) (cond-false (divides_all (suc most) steps) (suc most) (greatest_exponent most steps) none) ∙ greatest_divides most steps
-]
-
--- what is divided by a power that divides it is found again
-pub scaled_back : (exponent : ℕ) (steps : List ℕ) → divides_all exponent steps ≡ true → map (λ step. step * 10 ^ exponent) (scaled exponent steps) ≡ steps
-scaled_back exponent [] all = refl
-scaled_back exponent (step ∷ steps) all =
-    let here = eqb-true (step % 10 ^ exponent) 0 (first_so (eqb (step % 10 ^ exponent) 0) (divides_all exponent steps) all) in
-    let whole : step / 10 ^ exponent * 10 ^ exponent ≡ step = omega (arith, div-add-mod' step (10 ^ exponent), here) in
-    ap (λ s. s ∷ map (λ step. step * 10 ^ exponent) (scaled exponent steps)) whole
-    ∙ ap (λ ss. step ∷ ss) (scaled_back exponent steps (second_so (eqb (step % 10 ^ exponent) 0) (divides_all exponent steps) all))
+use Rattle.time_codec.specs.Reading.{Follow, Begin, AreRead}
+use Rattle.time_codec.proofs.ScaleLemmas.{greatest_most, greatest_divides, one_divides, scaled_back, scaled_unscaled, unscaled_zero, same_unscaled, test_from_narrow}
+use Rattle.time_codec.specs.Times.{AreTimes, Ascend, differences, divides_all, greatest_exponent, exponent_of, scaled, unscaled, all_same, form_of, exponent_in, number_of, body_of, spelled, coded_from, coded_times}
 
 -- one more difference is taken
 pub between_more : (found : List ℕ) (later : List ℤ) (index : ℕ) (before time : ℤ) (gap : ℕ) (all : List ℕ) → index < length later → time ≡ get_or later index time → gap ≡ unsigned_abs (time -ℤ before)
@@ -76,19 +29,7 @@ between_more found later index before time gap all lt is gap_is so_far =
     ∙ ap (λ rest. found ++ differences (before ∷ rest)) (ap (λ t. t ∷ drop (index + 1) later) is ∙ sym (drop_more later index time lt))
     ∙ so_far
 
--- ---- the parts of a coding
-
-pub record Coded (bytes : List ℕ) (first : ℤ) (later : List ℤ) : Type 0 where
-  pub form : Form
-  pub exponent : ℕ
-  pub steps : List ℕ
-  pub is : bytes ≡ (16 * number_of form + exponent) ∷ (to_be_bytes w64 (cast_unsigned w64 first) ++ body_of form steps)
-  pub exponent_most : exponent ≤ 12
-  pub back : differences (first ∷ later) ≡ map (λ step. step * 10 ^ exponent) steps
-  pub few : length steps ≤ 999
-  pub fit : All (λ step. step < 2 ^ 64) steps
-  pub same : form ≡ RunLength → all_same steps ≡ true
-  pub narrow : form ≡ Packed → All (λ step. step < 2 ^ 60) steps
+-- ---- the form
 
 length-differences : (first : ℤ) (later : List ℤ) → length (differences (first ∷ later)) ≡ length later
 length-differences first [] = refl
@@ -122,18 +63,6 @@ narrow_from_test (step ∷ steps) all =
     (ltb-true step (2 ^ 60) (first_so (ltb step (2 ^ 60)) (list_all (λ s. ltb s (2 ^ 60)) steps) all))
     (narrow_from_test steps (second_so (ltb step (2 ^ 60)) (list_all (λ s. ltb s (2 ^ 60)) steps) all))
 
-same_scaled : (exponent first : ℕ) (steps : List ℕ) → list_all (λ step. eqb step first) steps ≡ true → list_all (λ step. eqb step (first / 10 ^ exponent)) (scaled exponent steps) ≡ true
-same_scaled exponent first [] all = refl
-same_scaled exponent first (step ∷ steps) all =
-    let here = eqb-true step first (first_so (eqb step first) (list_all (λ s. eqb s first) steps) all) in
-    both_true
-    (eq-eqb (step / 10 ^ exponent) (first / 10 ^ exponent) (ap (λ s. s / 10 ^ exponent) here))
-    (same_scaled exponent first steps (second_so (eqb step first) (list_all (λ s. eqb s first) steps) all))
-
-same_still : (exponent : ℕ) (steps : List ℕ) → all_same steps ≡ true → all_same (scaled exponent steps) ≡ true
-same_still exponent [] all = all
-same_still exponent (first ∷ steps) all = same_scaled exponent first steps all
-
 -- which form it is, with what was tested for it
 pub data WhichForm (steps : List ℕ) (form : Form) : Type 0 where
   run_length : form ≡ RunLength → all_same steps ≡ true → WhichForm steps form
@@ -160,7 +89,7 @@ scaled_zero (step ∷ steps) =
     let same : step / 1 ≡ step = omega arith in
     ap (λ s. s ∷ scaled 0 steps) same ∙ ap (λ ss. step ∷ ss) (scaled_zero steps)
 
-some_same : (steps : List ℕ) → all_same steps ≡ true → 0 < length steps
+pub some_same : (steps : List ℕ) → all_same steps ≡ true → 0 < length steps
 some_same [] all = absurd (cc all)
 some_same (step ∷ steps) all = omega arith
 
@@ -227,7 +156,7 @@ same_greatest (suc most) first steps all =
     ap (λ b. cond b (suc most) (greatest_exponent most (first ∷ steps))) (same_divides (suc most) first steps all ∙ sym (same_divides (suc most) first [] refl))
     ∙ ap (λ e. cond (divides_all (suc most) (first ∷ [])) (suc most) e) (same_greatest most first steps all)
 
-same_exponent : (steps : List ℕ) → all_same steps ≡ true → exponent_of (get_or steps 0 0 ∷ []) ≡ exponent_of steps
+pub same_exponent : (steps : List ℕ) → all_same steps ≡ true → exponent_of (get_or steps 0 0 ∷ []) ≡ exponent_of steps
 same_exponent [] all = absurd (cc all)
 same_exponent (first ∷ steps) all = sym (same_greatest 12 first steps all)
 
@@ -289,58 +218,167 @@ pub coded_whole : (first : ℤ) (later : List ℤ) (times : List ℤ) → times 
 unfolding coded_times
 coded_whole first later times is = ap coded_times (sym is)
 
--- ---- what is read
+-- ---- the form that is read
 
-pub taken_apart : (bytes : List ℕ) (first : ℤ) (later : List ℤ) → AreTimes (first ∷ later) → bytes ≡ coded_times (first ∷ later) → Coded bytes first later
+form_run : (steps : List ℕ) → all_same steps ≡ true → form_of steps ≡ RunLength
+unfolding form_of
+form_run steps same = cond-true (all_same steps) _ _ same
+
+form_packed : (steps : List ℕ) → all_same steps ≡ false → list_all (λ step. ltb step (2 ^ 60)) (scaled (exponent_of steps) steps) ≡ true → form_of steps ≡ Packed
+unfolding form_of
+form_packed steps other narrow = cond-false (all_same steps) _ _ other ∙ cond-true (list_all (λ step. ltb step (2 ^ 60)) (scaled (exponent_of steps) steps)) _ _ narrow
+
+form_raw : (steps : List ℕ) → all_same steps ≡ false → list_all (λ step. ltb step (2 ^ 60)) (scaled (exponent_of steps) steps) ≡ false → form_of steps ≡ Raw
+unfolding form_of
+form_raw steps other wide = cond-false (all_same steps) _ _ other ∙ cond-false (list_all (λ step. ltb step (2 ^ 60)) (scaled (exponent_of steps) steps)) _ _ wide
+
+-- times with these differences follow so
+run_follows : (times : List ℤ) (exponent : ℕ) (rest steps : List ℕ) → differences times ≡ unscaled exponent steps → all_same steps ≡ true → exponent_of (unscaled exponent steps) ≡ exponent → rest ≡ body_of RunLength steps → Follow RunLength exponent rest times
+run_follows times exponent rest steps apart same own is = record {
+  chosen = form_run (differences times) (ap all_same apart ∙ same_unscaled exponent steps ∙ same);
+  scale = ap exponent_of apart ∙ own;
+  spelled = is ∙ ap (body_of RunLength) (sym (ap (scaled exponent) apart ∙ scaled_unscaled exponent steps));
+}
+
+packed_follows : (times : List ℤ) (exponent : ℕ) (rest steps : List ℕ) → differences times ≡ unscaled exponent steps → all_same steps ≡ false → All (λ step. step < 2 ^ 60) steps → exponent_of (unscaled exponent steps) ≡ exponent → rest ≡ body_of Packed steps → Follow Packed exponent rest times
+packed_follows times exponent rest steps apart other narrow own is = record {
+  chosen = form_packed (differences times) (ap all_same apart ∙ same_unscaled exponent steps ∙ other)
+      (ap (λ ds. list_all (λ step. ltb step (2 ^ 60)) (scaled (exponent_of ds) ds)) apart
+      ∙ ap (λ e. list_all (λ step. ltb step (2 ^ 60)) (scaled e (unscaled exponent steps))) own
+      ∙ ap (list_all (λ step. ltb step (2 ^ 60))) (scaled_unscaled exponent steps)
+      ∙ test_from_narrow steps narrow);
+  scale = ap exponent_of apart ∙ own;
+  spelled = is ∙ ap (body_of Packed) (sym (ap (scaled exponent) apart ∙ scaled_unscaled exponent steps));
+}
+
+raw_follows : (times : List ℤ) (rest steps : List ℕ) → differences times ≡ unscaled 0 steps → all_same steps ≡ false → list_all (λ step. ltb (step / 10 ^ exponent_of steps) (2 ^ 60)) steps ≡ false → rest ≡ body_of Raw steps → Follow Raw 0 rest times
+raw_follows times rest steps apart other wide is =
+    let these = apart ∙ unscaled_zero steps in
+    record {
+      chosen = form_raw (differences times) (ap all_same these ∙ other)
+          (ap (λ ds. list_all (λ step. ltb step (2 ^ 60)) (scaled (exponent_of ds) ds)) these
+          ∙ list_all-map (λ step. ltb step (2 ^ 60)) (λ step. step / 10 ^ exponent_of steps) steps
+          ∙ wide);
+      scale = refl;
+      spelled = is ∙ ap (body_of Raw) (sym (ap (scaled 0) these ∙ scaled_zero steps));
+    }
+
+-- times that begin so, and follow so
+pub are_read : (form : Form) (exponent : ℕ) (first : ℤ) (rest gaps : List ℕ) (times : List ℤ) → Begin first gaps times → (differences times ≡ gaps → Follow form exponent rest times) → AreRead form exponent first rest times
+are_read form exponent first rest gaps times begin follow = record { later = begin.later; starts = begin.starts; are = begin.are; follow = follow begin.apart }
+
+pub run_read : (exponent : ℕ) (first : ℤ) (rest steps : List ℕ) (times : List ℤ) → Begin first (unscaled exponent steps) times → all_same steps ≡ true → exponent_of (unscaled exponent steps) ≡ exponent → rest ≡ body_of RunLength steps → AreRead RunLength exponent first rest times
+run_read exponent first rest steps times begin same own is = are_read RunLength exponent first rest (unscaled exponent steps) times begin (λ apart. run_follows times exponent rest steps apart same own is)
+
+pub packed_read : (exponent : ℕ) (first : ℤ) (rest steps : List ℕ) (times : List ℤ) → Begin first (unscaled exponent steps) times → all_same steps ≡ false → All (λ step. step < 2 ^ 60) steps → exponent_of (unscaled exponent steps) ≡ exponent → rest ≡ body_of Packed steps → AreRead Packed exponent first rest times
+packed_read exponent first rest steps times begin other narrow own is = are_read Packed exponent first rest (unscaled exponent steps) times begin (λ apart. packed_follows times exponent rest steps apart other narrow own is)
+
+pub raw_read : (first : ℤ) (rest steps : List ℕ) (times : List ℤ) → Begin first (unscaled 0 steps) times → all_same steps ≡ false → list_all (λ step. ltb (step / 10 ^ exponent_of steps) (2 ^ 60)) steps ≡ false → rest ≡ body_of Raw steps → AreRead Raw 0 first rest times
+raw_read first rest steps times begin other wide is = are_read Raw 0 first rest (unscaled 0 steps) times begin (λ apart. raw_follows times rest steps apart other wide is)
+
+-- ---- the parts of a coding
+
+-- the steps behind the first time, in units of the scale
+pub record Parts (form : Form) (exponent : ℕ) (rest : List ℕ) (first : ℤ) (later : List ℤ) : Type 0 where
+  pub steps : List ℕ
+  pub back : differences (first ∷ later) ≡ unscaled exponent steps
+  pub is : rest ≡ body_of form steps
+  pub size : length steps ≡ length later
+  pub few : length steps ≤ 999
+  pub fit : All (λ step. step < 2 ^ 64) steps
+  pub same : form ≡ RunLength → all_same steps ≡ true
+  pub other : (form ≡ RunLength → ⊥) → all_same steps ≡ false
+  pub narrow : form ≡ Packed → All (λ step. step < 2 ^ 60) steps
+  pub wide : form ≡ Raw → list_all (λ step. ltb (step / 10 ^ exponent_of steps) (2 ^ 60)) steps ≡ false
+  pub own : (form ≡ Raw → ⊥) → exponent_of (unscaled exponent steps) ≡ exponent
+  pub unscaled_raw : form ≡ Raw → exponent ≡ 0
+
+exponent_divides : (form : Form) (exponent : ℕ) (ds : List ℕ) → exponent_in form ds ≡ exponent → divides_all exponent ds ≡ true
+exponent_divides RunLength exponent ds is = subst (λ (e : ℕ). divides_all e ds ≡ true) is (greatest_divides 12 ds)
+exponent_divides Packed exponent ds is = subst (λ (e : ℕ). divides_all e ds ≡ true) is (greatest_divides 12 ds)
+exponent_divides Raw exponent ds is = subst (λ (e : ℕ). divides_all e ds ≡ true) is (one_divides ds)
+
+exponent_is : (form : Form) (exponent : ℕ) (ds : List ℕ) → (form ≡ Raw → ⊥) → exponent_in form ds ≡ exponent → exponent_of ds ≡ exponent
+exponent_is RunLength exponent ds other is = is
+exponent_is Packed exponent ds other is = is
+exponent_is Raw exponent ds other is = absurd (other refl)
+
+exponent_raw : (form : Form) (exponent : ℕ) (ds : List ℕ) → form ≡ Raw → exponent_in form ds ≡ exponent → exponent ≡ 0
+exponent_raw RunLength exponent ds same is = absurd (cc same)
+exponent_raw Packed exponent ds same is = absurd (cc same)
+exponent_raw Raw exponent ds same is = sym is
+
+form_same : (ds : List ℕ) (form : Form) → WhichForm ds form → (form ≡ RunLength → all_same ds ≡ true) × ((form ≡ RunLength → ⊥) → all_same ds ≡ false)
+form_same ds form (run_length is same) = (λ _. same, λ no. absurd (no is))
+form_same ds form (packed is other _) = (λ run. absurd (cc (is, run)), λ _. other)
+form_same ds form (raw is other _) = (λ run. absurd (cc (is, run)), λ _. other)
+
+form_narrow : (ds : List ℕ) (form : Form) → WhichForm ds form → (form ≡ Packed → list_all (λ step. ltb step (2 ^ 60)) (scaled (exponent_of ds) ds) ≡ true) × (form ≡ Raw → list_all (λ step. ltb step (2 ^ 60)) (scaled (exponent_of ds) ds) ≡ false)
+form_narrow ds form (run_length is _) = (λ pack. absurd (cc (is, pack)), λ no. absurd (cc (is, no)))
+form_narrow ds form (packed is _ narrow) = (λ _. narrow, λ no. absurd (cc (is, no)))
+form_narrow ds form (raw is _ wide) = (λ pack. absurd (cc (is, pack)), λ _. wide)
+
+pub parts : (form : Form) (exponent : ℕ) (rest : List ℕ) (first : ℤ) (later : List ℤ) → AreTimes (first ∷ later) → Follow form exponent rest (first ∷ later) → Parts form exponent rest first later
+parts form exponent rest first later times follow =
+    let ds = differences (first ∷ later) in
+    let steps = scaled exponent ds in
+    let which_one : WhichForm ds form = subst (WhichForm ds) follow.chosen (which ds) in
+    let back : ds ≡ unscaled exponent steps = sym (scaled_back exponent ds (exponent_divides form exponent ds follow.scale)) in
+    let alike : all_same steps ≡ all_same ds = sym (same_unscaled exponent steps) ∙ ap all_same (sym back) in
+    let size : length steps ≡ length later = omega (arith, length-map ds (λ d. d / 10 ^ exponent), length-differences first later) in
+    record {
+      steps = steps;
+      back = back;
+      is = follow.spelled;
+      size = size;
+      few = omega (arith, size, times.most);
+      fit = scaled_fit exponent ds (differences_fit first later times.moments times.ascend);
+      same = λ run. alike ∙ (form_same ds form which_one).0 run;
+      other = λ no. alike ∙ (form_same ds form which_one).1 no;
+      narrow = λ pack. narrow_from_test steps (ap (λ e. list_all (λ step. ltb step (2 ^ 60)) (scaled e ds)) (sym (exponent_is form exponent ds (λ no. cc (pack, no)) follow.scale)) ∙ (form_narrow ds form which_one).0 pack);
+      wide = λ raw.
+          let same : steps ≡ ds = ap (λ e. scaled e ds) (exponent_raw form exponent ds raw follow.scale) ∙ scaled_zero ds in
+          ap (λ ss. list_all (λ step. ltb (step / 10 ^ exponent_of ss) (2 ^ 60)) ss) same
+          ∙ sym (list_all-map (λ step. ltb step (2 ^ 60)) (λ step. step / 10 ^ exponent_of ds) ds)
+          ∙ (form_narrow ds form which_one).1 raw;
+      own = λ no. ap exponent_of (sym back) ∙ exponent_is form exponent ds no follow.scale;
+      unscaled_raw = λ raw. exponent_raw form exponent ds raw follow.scale;
+    }
+
+-- the bytes of times that follow so, and back
+pub followed_coded : (bytes : List ℕ) (head : ℕ) (form : Form) (exponent : ℕ) (first : ℤ) (rest : List ℕ) (later : List ℤ) → head ≡ 16 * number_of form + exponent → bytes ≡ head ∷ (to_be_bytes w64 (cast_unsigned w64 first) ++ rest) → Follow form exponent rest (first ∷ later) → bytes ≡ coded_times (first ∷ later)
 unfolding coded_times
-taken_apart bytes first later times e = parts (differences (first ∷ later)) refl (which (differences (first ∷ later)))
-  where
-    few : (exponent : ℕ) → length (scaled exponent (differences (first ∷ later))) ≤ 999
-    few exponent = omega (arith, length-map (differences (first ∷ later)) (λ d. d / 10 ^ exponent), length-differences first later, times.most)
+followed_coded bytes head form exponent first rest later head_is is follow =
+    let ds = differences (first ∷ later) in
+    is
+    ∙ ap (λ h. h ∷ (to_be_bytes w64 (cast_unsigned w64 first) ++ rest)) head_is
+    ∙ ap (λ r. (16 * number_of form + exponent) ∷ (to_be_bytes w64 (cast_unsigned w64 first) ++ r)) follow.spelled
+    ∙ ap (λ e. spelled form e first ds) (sym follow.scale)
+    ∙ sym (coded_as first ds form follow.chosen)
 
-    fit : (exponent : ℕ) → All (λ step. step < 2 ^ 64) (scaled exponent (differences (first ∷ later)))
-    fit exponent = scaled_fit exponent (differences (first ∷ later)) (differences_fit first later times.moments times.ascend)
+-- the form, the exponent and the bytes behind the first of some times
+pub record Coded (bytes : List ℕ) (first : ℤ) (later : List ℤ) : Type 0 where
+  pub form : Form
+  pub exponent : ℕ
+  pub rest : List ℕ
+  pub exponent_most : exponent ≤ 12
+  pub is : bytes ≡ (16 * number_of form + exponent) ∷ (to_be_bytes w64 (cast_unsigned w64 first) ++ rest)
+  pub follow : Follow form exponent rest (first ∷ later)
 
-    parts : (steps : List ℕ) → differences (first ∷ later) ≡ steps → WhichForm (differences (first ∷ later)) (form_of (differences (first ∷ later))) → Coded bytes first later
-    parts steps same (run_length is all) =
-        let ds = differences (first ∷ later) in
-        record {
-          form = RunLength;
-          exponent = exponent_of ds;
-          steps = scaled (exponent_of ds) ds;
-          is = e ∙ coded_as first ds RunLength is;
-          exponent_most = greatest_most 12 ds;
-          back = sym (scaled_back (exponent_of ds) ds (greatest_divides 12 ds));
-          few = few (exponent_of ds);
-          fit = fit (exponent_of ds);
-          same = λ _. same_still (exponent_of ds) ds all;
-          narrow = λ no. absurd (cc no);
-        }
-    parts steps same (packed is _ narrow) =
-        let ds = differences (first ∷ later) in
-        record {
-          form = Packed;
-          exponent = exponent_of ds;
-          steps = scaled (exponent_of ds) ds;
-          is = e ∙ coded_as first ds Packed is;
-          exponent_most = greatest_most 12 ds;
-          back = sym (scaled_back (exponent_of ds) ds (greatest_divides 12 ds));
-          few = few (exponent_of ds);
-          fit = fit (exponent_of ds);
-          same = λ no. absurd (cc no);
-          narrow = λ _. narrow_from_test (scaled (exponent_of ds) ds) narrow;
-        }
-    parts steps same (raw is _ _) =
-        let ds = differences (first ∷ later) in
-        record {
-          form = Raw;
-          exponent = 0;
-          steps = scaled 0 ds;
-          is = e ∙ coded_as first ds Raw is;
-          exponent_most = omega arith;
-          back = sym (scaled_back 0 ds (one_divides ds));
-          few = few 0;
-          fit = fit 0;
-          same = λ no. absurd (cc no);
-          narrow = λ no. absurd (cc no);
-        }
+exponent_in_most : (form : Form) (ds : List ℕ) → exponent_in form ds ≤ 12
+exponent_in_most RunLength ds = greatest_most 12 ds
+exponent_in_most Packed ds = greatest_most 12 ds
+exponent_in_most Raw ds = omega arith
+
+pub taken_apart : (bytes : List ℕ) (first : ℤ) (later : List ℤ) → bytes ≡ coded_times (first ∷ later) → Coded bytes first later
+unfolding coded_times coded_from
+taken_apart bytes first later e =
+    let ds = differences (first ∷ later) in
+    record {
+      form = form_of ds;
+      exponent = exponent_in (form_of ds) ds;
+      rest = body_of (form_of ds) (scaled (exponent_in (form_of ds) ds) ds);
+      exponent_most = exponent_in_most (form_of ds) ds;
+      is = e;
+      follow = record { chosen = refl; scale = refl; spelled = refl };
+    }

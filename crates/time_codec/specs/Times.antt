@@ -46,6 +46,10 @@ exponent_of differences = greatest_exponent 12 differences
 abbrev pub scaled : ℕ → List ℕ → List ℕ
 scaled exponent differences = map (λ difference. difference / 10 ^ exponent) differences
 
+-- the differences that are so many units of a power of ten each
+abbrev pub unscaled : ℕ → List ℕ → List ℕ
+unscaled exponent steps = map (λ step. step * 10 ^ exponent) steps
+
 -- there is a difference, and all are equal
 abbrev pub all_same : List ℕ → Bool
 all_same [] = false

@@ -6,10 +6,10 @@ ghost use Rattle.simple8b.specs.Words.{words_of};
 ghost use Rattle.time_codec.specs.Times.{AreTimes, coded_times, coded_from, exponent_of};
 
 use super::differences::{between, exponent, is_narrow, is_regular, power, scale};
-use super::words::{begun, push_words};
+use super::words::begun;
 use std::alloc::{AllocError, Global};
 use tsdb_types::Time;
-use word_codec::write_uvarint;
+use word_codec::{write_uvarint, write_words};
 
 /// The bytes of 1 to 1,000 times, each later than the one before.
 pub fn encode(alloc: Global, times: &[Time]) -> Result<Vec<u8>, AllocError>
@@ -70,7 +70,7 @@ fn packed(
     let words = simple8b::encode(alloc, scaled)?;
     let room = words.len().saturating_mul(8).saturating_add(9);
     let mut out = begun(alloc, room, 16 + exponent as u8, first)?;
-    push_words(&mut out, words.as_slice())?;
+    write_words(&mut out, words.as_slice())?;
     Ok(out)
 }
 
@@ -80,6 +80,6 @@ fn raw(alloc: Global, first: Time, differences: &[u64]) -> Result<Vec<u8>, Alloc
 {
     let room = differences.len().saturating_mul(8).saturating_add(9);
     let mut out = begun(alloc, room, 0, first)?;
-    push_words(&mut out, differences)?;
+    write_words(&mut out, differences)?;
     Ok(out)
 }

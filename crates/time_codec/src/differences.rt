@@ -1,6 +1,6 @@
-ghost use Rattle.std.specs.Prelude.{◌≡◌, ℕ, ◌+◌, ◌/◌, ◌%◌, ◌^◌, ◌<◌, ◌≤◌, ◌==◌, ℤ, ◌-ℤ◌, unsigned_abs, ◌∷◌, map, IfOk, nat_lt};
+ghost use Rattle.std.specs.Prelude.{◌≡◌, ◌↔◌, IsTrue, ℕ, ◌+◌, ◌/◌, ◌%◌, ◌^◌, ◌<◌, ◌≤◌, ◌==◌, ℤ, ◌-ℤ◌, unsigned_abs, ◌∷◌, map, IfOk, nat_lt};
 ghost use Rattle.std.specs.List.{list_all};
-ghost use Rattle.time_codec.specs.Times.{differences, divides_all, exponent_of, all_same, scaled};
+ghost use Rattle.time_codec.specs.Times.{differences, divides_all, exponent_of, all_same, unscaled};
 
 use std::alloc::{AllocError, Global};
 use tsdb_types::Time;
@@ -40,6 +40,17 @@ pub fn exponent(differences: &[u64]) -> usize
         exponent -= 1;
     }
     0
+}
+
+/// Whether no greater power of ten divides all differences that are so many times this one.
+pub fn is_greatest(exponent: usize, steps: &[u64]) -> bool
+    requires { exponent ≤ 12 }
+    ensures { IsTrue result ↔ (exponent_of (unscaled exponent steps.now) ≡ exponent) }
+{
+    if exponent == GREATEST {
+        return true;
+    }
+    !is_divisor(1, steps)
 }
 
 /// A power of ten.

@@ -2,8 +2,10 @@
 //! Each list has one coding, and nothing else is read.
 #![tactic(auto)]
 
+mod bodies;
 mod coding;
 mod differences;
+mod following;
 mod form;
 mod reading;
 mod words;

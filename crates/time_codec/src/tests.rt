@@ -73,6 +73,76 @@ const CODINGS: [(&[i64], &[u8]); 8] = [
     ),
 ];
 
+/// The first of times that are all as far from one another, how far, how many there are, and their bytes as an encoder
+/// wrote them that stands outside of this repository, in C, and was made from the page of formats alone.
+const REGULAR: [(i64, u64, usize, &[u8]); 8] = [
+    (
+        0,
+        1,
+        2,
+        &[
+            0x20, 0x00, 0x00, 0x00, 0x00, 0x00, 0x00, 0x00, 0x00, 0x01, 0x02,
+        ],
+    ),
+    (
+        -9223372036854775806,
+        18446744073709551612,
+        2,
+        &[
+            0x20, 0x80, 0x00, 0x00, 0x00, 0x00, 0x00, 0x00, 0x02, 0xFC, 0xFF, 0xFF, 0xFF, 0xFF,
+            0xFF, 0xFF, 0xFF, 0xFF, 0x01, 0x02,
+        ],
+    ),
+    (
+        1700000000000000000,
+        10000000000,
+        1000,
+        &[
+            0x2A, 0x17, 0x97, 0x9C, 0xFE, 0x36, 0x2A, 0x00, 0x00, 0x01, 0xE8, 0x07,
+        ],
+    ),
+    (
+        1700000000000000000,
+        1000000000,
+        60,
+        &[
+            0x29, 0x17, 0x97, 0x9C, 0xFE, 0x36, 0x2A, 0x00, 0x00, 0x01, 0x3C,
+        ],
+    ),
+    (
+        1700000000000000000,
+        1000000,
+        240,
+        &[
+            0x26, 0x17, 0x97, 0x9C, 0xFE, 0x36, 0x2A, 0x00, 0x00, 0x01, 0xF0, 0x01,
+        ],
+    ),
+    (
+        -500,
+        250,
+        5,
+        &[
+            0x21, 0xFF, 0xFF, 0xFF, 0xFF, 0xFF, 0xFF, 0xFE, 0x0C, 0x19, 0x05,
+        ],
+    ),
+    (
+        1700000000000000000,
+        3600000000000,
+        24,
+        &[
+            0x2B, 0x17, 0x97, 0x9C, 0xFE, 0x36, 0x2A, 0x00, 0x00, 0x24, 0x18,
+        ],
+    ),
+    (
+        1700000000000000000,
+        86400000000000,
+        365,
+        &[
+            0x2B, 0x17, 0x97, 0x9C, 0xFE, 0x36, 0x2A, 0x00, 0x00, 0xE0, 0x06, 0xED, 0x02,
+        ],
+    ),
+];
+
 /// Bytes of no list of times.
 const REFUSED: [&[u8]; 12] = [
     &[],
@@ -98,6 +168,22 @@ const REFUSED: [&[u8]; 12] = [
 fn times_have_their_bytes(rt: HostRuntime) -> Result<(), Fail> {
     for (numbers, bytes) in CODINGS {
         check(&rt, rt.alloc(), numbers, bytes)?;
+    }
+    Ok(())
+}
+
+#[test]
+fn regular_times_have_the_bytes_of_another_encoder(rt: HostRuntime) -> Result<(), Fail> {
+    for (first, distance, count, bytes) in REGULAR {
+        let times = decode(rt.alloc(), bytes)?;
+        assert_eq!(rt; times.len(), count);
+        let mut number = first;
+        for time in &times {
+            assert_eq!(rt; time.get(), number);
+            number = number.wrapping_add_unsigned(distance);
+        }
+        let again = encode(rt.alloc(), times.as_slice())?;
+        assert_eq!(rt; again.as_slice(), bytes);
     }
     Ok(())
 }

@@ -1,9 +1,10 @@
-ghost use Rattle.std.specs.Prelude.{◌≡◌, ℕ, ◌^◌, ◌<◌, ◌≤◌, ◌∷◌, ◌++◌, ℤ, List, length, All, OnOk, IfOk, IfSome, IsSomeAnd};
+ghost use Rattle.std.specs.Prelude.{◌≡◌, ℕ, ◌^◌, ◌<◌, ◌≤◌, ◌∷◌, List, length, All, IfOk, IfSome, IsSomeAnd};
 ghost use Rattle.std.specs.List.{flat_map};
 ghost use Rattle.std.specs.Int.{to_be_bytes, cast_unsigned, w64};
 
 use std::alloc::{AllocError, Global};
 use tsdb_types::Time;
+use word_codec::read_words;
 
 /// The most bytes of the differences of a list.
 const MOST_BYTES: usize = 7992;
@@ -18,18 +19,10 @@ pub fn begun(alloc: Global, room: usize, head: u8, first: Time) -> Result<Vec<u8
     Ok(out)
 }
 
-/// Appends words of eight bytes, the highest byte first.
-pub fn push_words(out: &mut Vec<u8>, words: &[u64]) -> Result<(), AllocError>
-    ensures { OnOk result (out.new.items ≡ out.old.items ++ flat_map (to_be_bytes w64) words.now) }
-{
-    for word in words {
-        out.extend_from_slice(&word.to_be_bytes())?;
-    }
-    Ok(())
-}
-
 /// The words that make up the bytes, 999 at most; none where the bytes are no such words.
 pub fn words_in(alloc: Global, bytes: &[u8]) -> Result<Option<Vec<u64>>, AllocError>
+    ensures found { IfOk result (λ found. IfSome found (λ words. flat_map (to_be_bytes w64) words.items ≡ bytes.now)) }
+    ensures fit { IfOk result (λ found. IfSome found (λ words. All (λ word. word < 2 ^ 64) words.items)) }
     ensures most { IfOk result (λ found. IfSome found (λ words. length words.items ≤ 999)) }
     ensures only { (words : List ℕ) → All (λ word. word < 2 ^ 64) words → length words ≤ 999 → bytes.now ≡ flat_map (to_be_bytes w64) words
         → IfOk result (λ found. IsSomeAnd found (λ read. read.items ≡ words)) }
@@ -37,15 +30,8 @@ pub fn words_in(alloc: Global, bytes: &[u8]) -> Result<Option<Vec<u64>>, AllocEr
     if bytes.len() > MOST_BYTES {
         return Ok(None);
     }
-    let mut words = Vec::with_capacity(alloc, bytes.len() / 8)?;
-    let mut rest = bytes;
-    while let Some((eight, behind)) = rest.split_first_chunk::<8>() {
-        words.push(u64::from_be_bytes(*eight))?;
-        rest = behind;
-    }
-    if rest.is_empty() {
-        Ok(Some(words))
-    } else {
-        Ok(None)
-    }
+    let Some(words) = read_words(alloc, bytes)? else {
+        return Ok(None);
+    };
+    Ok(Some(words))
 }

@@ -18,7 +18,7 @@ steps_from before [] = []
 steps_from before (number ∷ numbers) = step_of before number ∷ steps_from number numbers
 
 -- a number in eight bytes, the highest first
-unfoldable pub big_endian : ℕ → List ℕ
+abbrev pub big_endian : ℕ → List ℕ
 big_endian number = to_be_bytes w64 number
 
 -- two or more steps, all equal

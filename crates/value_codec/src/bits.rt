@@ -24,15 +24,19 @@ fn append_bits(out: &mut Vec<u8>, values: &[Value]) -> Result<(), AllocError>
     ensures { OnOk result (out.new.items ≡ out.old.items ++ bytes_behind 0 (map truth_of values.now)) }
 {
     let mut rest = values;
-    while !rest.is_empty() {
-        let (next, behind) = rest.split_at(rest.len().min(8));
-        out.push(byte_with(next))?;
+    while let Some((eight, behind)) = rest.split_first_chunk::<8>() {
+        out.push(byte_with(eight))?;
         rest = behind;
     }
+    if rest.is_empty() {
+        return Ok(());
+    }
+    out.push(byte_with(rest))?;
     Ok(())
 }
 
 /// A byte of up to eight Booleans.
+#[inline(always)]
 fn byte_with(values: &[Value]) -> u8
     ensures { result ≡ byte_of 128 (map truth_of values.now) }
 {

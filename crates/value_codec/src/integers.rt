@@ -3,11 +3,11 @@ ghost use Rattle.value_codec.specs.Steps.{AreRead, NoneRead, big_endian, coded_s
 ghost use Rattle.value_codec.specs.declared.form.Form.TheVariants as form;
 
 use crate::form::{Form, byte_of, form_for, form_with};
-use crate::words::{append_words, read_words, split_uvarint, word_from};
+use crate::words::{read_words, split_uvarint, word_from};
 use simple8b::WordsFault;
 use std::alloc::{AllocError, Global};
 use tsdb_types::BlockFault;
-use word_codec::write_uvarint;
+use word_codec::{write_uvarint, write_words};
 
 /// The bytes of 1 to 1,000 steps.
 pub fn encode_steps(alloc: Global, steps: &[u64]) -> Result<Vec<u8>, AllocError>
@@ -40,7 +40,7 @@ fn encode_raw(alloc: Global, first: u64, rest: &[u64]) -> Result<Vec<u8>, AllocE
     ensures { IfOk result (λ out. out.items ≡ (form_byte form.Raw ∷ big_endian first) ++ tail_of form.Raw rest.now) }
 {
     let mut out = head_of(alloc, Form::Raw, first, 8 * rest.len())?;
-    append_words(&mut out, rest)?;
+    write_words(&mut out, rest)?;
     Ok(out)
 }
 
@@ -51,7 +51,7 @@ fn encode_packed(alloc: Global, first: u64, rest: &[u64]) -> Result<Vec<u8>, All
 {
     let words = simple8b::encode(alloc, rest)?;
     let mut out = head_of(alloc, Form::Packed, first, 8 * words.len().min(1000))?;
-    append_words(&mut out, words.as_slice())?;
+    write_words(&mut out, words.as_slice())?;
     Ok(out)
 }
 

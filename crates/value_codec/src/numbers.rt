@@ -1,4 +1,4 @@
-ghost use Rattle.std.specs.Prelude.{◌≡◌, ◌≢◌, ◌∷◌, All, IfOk, map};
+ghost use Rattle.std.specs.Prelude.{◌≡◌, ◌≢◌, ◌+◌, ◌∷◌, All, IfOk, length, map};
 ghost use Rattle.tsdb_types.specs.Values.{kind_of};
 ghost use Rattle.value_codec.specs.Steps.{step_of, steps_from};
 ghost use Rattle.value_codec.specs.Coding.{number_of, AreOf, IsInRange};
@@ -33,14 +33,26 @@ pub fn values_with(
     ensures kind { IfOk result (λ values. AreOf kind values.items) }
     ensures range { IfOk result (λ values. All IsInRange values.items) }
 {
-    let mut number = number_after(0, first);
-    let mut values = Vec::with_capacity(alloc, rest.len().saturating_add(1))?;
-    values.push(value_with(kind, number))?;
-    for step in rest {
-        number = number_after(number, *step);
-        values.push(value_with(kind, number))?;
-    }
+    let mut values = vec![in alloc; Value::Uint(0); rest.len() + 1]?;
+    write_values(values.as_mut_slice(), kind, first, rest);
     Ok(values)
+}
+
+/// Writes the values of a kind of numbers with these steps.
+fn write_values(values: &mut [Value], kind: Kind, first: u64, rest: &[u64])
+    requires numbers { kind ≢ Kind.Boolean }
+    requires room { length values.old ≡ length rest.now + 1 }
+    ensures size { length values.new ≡ length rest.now + 1 }
+    ensures steps { steps_from 0 (map number_of values.new) ≡ first ∷ rest.now }
+    ensures kind { AreOf kind values.new }
+    ensures range { All IsInRange values.new }
+{
+    let mut number = number_after(0, first);
+    values[0] = value_with(kind, number);
+    for k in 0..rest.len() {
+        number = number_after(number, rest[k]);
+        values[k + 1] = value_with(kind, number);
+    }
 }
 
 /// The unsigned number with the bits of a number.

@@ -1,4 +1,4 @@
-ghost use Rattle.std.specs.Prelude.{◌≡◌, ◌≢◌, ◌<◌, ◌^◌, ◌++◌, ℕ, List, All, OnOk, IfOk, IfSome, IsNone};
+ghost use Rattle.std.specs.Prelude.{◌≡◌, ◌≢◌, ◌<◌, ◌^◌, ◌++◌, ℕ, List, All, IfOk, IfSome, IsNone};
 ghost use Rattle.std.specs.List.{flat_map};
 ghost use Rattle.word_codec.specs.Uvarint.{uvarint};
 ghost use Rattle.value_codec.specs.Steps.{big_endian};
@@ -6,16 +6,6 @@ ghost use Rattle.value_codec.specs.Steps.{big_endian};
 use std::alloc::{AllocError, Global};
 use tsdb_types::BlockFault;
 use word_codec::read_uvarint;
-
-/// Appends words of eight bytes.
-pub fn append_words(out: &mut Vec<u8>, words: &[u64]) -> Result<(), AllocError>
-    ensures { OnOk result (out.new.items ≡ out.old.items ++ flat_map big_endian words.now) }
-{
-    for word in words {
-        out.extend_from_slice(&word.to_be_bytes())?;
-    }
-    Ok(())
-}
 
 /// The word that eight bytes are, the highest first.
 pub fn word_from(bytes: &[u8; 8]) -> u64
@@ -31,15 +21,9 @@ pub fn read_words(alloc: Global, bytes: &[u8]) -> Result<Vec<u64>, BlockFault>
     ensures bad_block { result ≡ Err BlockFault.BadBlock → (words : List ℕ) → flat_map big_endian words ≢ bytes.now }
     ensures no_kind { (byte : ℕ) → result ≢ Err (BlockFault.BadKind byte) }
 {
-    let mut words = Vec::with_capacity(alloc, bytes.len() / 8)?;
-    let mut rest = bytes;
-    while let Some((first, behind)) = rest.split_first_chunk::<8>() {
-        words.push(word_from(first))?;
-        rest = behind;
-    }
-    if !rest.is_empty() {
+    let Some(words) = word_codec::read_words(alloc, bytes)? else {
         return Err(BlockFault::BadBlock);
-    }
+    };
     Ok(words)
 }
 

@@ -1,6 +1,6 @@
 use Rattle.std.proofs.Common.{◌≡◌, ap, sym, ◌∙◌, arith}
 use Rattle.time_codec.specs.Times.{greatest_exponent}
-use Rattle.time_codec.proofs.TimesLemmas.{greatest_at, greatest_below, greatest_zero}
+use Rattle.time_codec.proofs.ScaleLemmas.{greatest_at, greatest_below, greatest_zero}
 use Rattle.time_codec.proofs.differences.exponent.Goals as goal
 
 pub returns-then-is_divisor-clause-found : goal.returns-then-is_divisor-clause-found

@@ -3,7 +3,7 @@ use Rattle.tsdb_types.specs.declared.value.Value.{Value}
 use Rattle.value_codec.specs.Booleans.{byte_of, bytes_behind}
 use Rattle.value_codec.specs.Coding.{truth_of}
 use Rattle.std.proofs.lemmas.Bool.{eqb-true, eqb-false, cases_lt}
-use Rattle.std.proofs.lemmas.List.{append-nil, nil_from_length, take-map, drop-map, length-map, drop_all}
+use Rattle.std.proofs.lemmas.List.{append-nil, nil_from_length, take-map, drop-map, length-map, take_all, drop_all}
 use Rattle.value_codec.proofs.BitLemmas.{bytes-nil, bytes-step, byte_of-front}
 use Rattle.value_codec.proofs.bits.append_bits.Goals as goal
 
@@ -25,15 +25,24 @@ one_more rest next behind size byte out new all some is front back byte-is pushe
         (λ long. let full : size ≡ 8 = omega arith in ap (drop 8) truths-is ∙ drop-map truth_of 8 rest ∙ ap (map truth_of) (ap (λ (n : ℕ). drop n rest) (sym full) ∙ sym back))
         (cases_lt (length rest) 8)
 
-pub loop-rest-preserved : goal.loop-rest-preserved
-loop-rest-preserved c =
-    let rest = c.loop-rest.rest.now in
-    let some : length rest ≡ 0 → ⊥ = eqb-false (length rest) 0 (sym c.is_empty.ensures ∙ c.loop-rest-test.true) in
-    one_more rest c.split_at.result.0.now c.split_at.result.1.now c.min.result c.byte_with.result c.loop-rest.out.items c.push.new.self.items _
-    (omega (arith, some)) c.min.ensures c.split_at.ensures.front c.split_at.ensures.back c.byte_with.ensures c.in_ok-push.ensures.items c.loop-rest.invariant
+pub loop-eight-preserved : goal.loop-eight-preserved
+loop-eight-preserved c =
+    let rest = c.loop-eight.rest.now in
+    let cases = c.in-Some.ensures.cases in
+    one_more rest c.in-Some.eight.now c.in-Some.behind.now 8 c.byte_with.result c.loop-eight.out.items c.push.new.self.items _
+    (omega (arith, cases.2)) (omega (arith, cases.2)) cases.0 cases.1 c.byte_with.ensures c.in_ok-push.ensures.items c.loop-eight.invariant
+
+pub returns-then-is_empty : goal.returns-then-is_empty
+returns-then-is_empty c =
+    let rest = c.loop-eight.rest.now in
+    let none : rest ≡ [] = nil_from_length rest (eqb-true (length rest) 0 (sym c.if-is_empty.ensures)) in
+    sym (append-nil c.loop-eight.out.items) ∙ ap (λ (bs : List ℕ). c.loop-eight.out.items ++ bs) (sym (ap (λ (vs : List Value). bytes_behind 0 (map truth_of vs)) none ∙ bytes-nil)) ∙ c.loop-eight.invariant
 
 pub returns : goal.returns
 returns c =
-    let rest = c.loop-rest.rest.now in
-    let none : rest ≡ [] = nil_from_length rest (eqb-true (length rest) 0 (sym c.is_empty.ensures ∙ c.loop-rest-test.false)) in
-    sym (append-nil c.loop-rest.out.items) ∙ ap (λ (bs : List ℕ). c.loop-rest.out.items ++ bs) (sym (ap (λ (vs : List Value). bytes_behind 0 (map truth_of vs)) none ∙ bytes-nil)) ∙ c.loop-rest.invariant
+    let rest = c.loop-eight.rest.now in
+    let some : length rest ≡ 0 → ⊥ = eqb-false (length rest) 0 (sym c.if-is_empty.ensures) in
+    let short : length rest < 8 = omega (arith, c.in_default.ensures.cases) in
+    let last = one_more rest rest [] (length rest) c.byte_with-2.result c.loop-eight.out.items c.push-2.new.self.items _
+    (omega (arith, some)) (omega (arith, short)) (sym (take_all (length rest) rest (omega arith))) (sym (drop_all (length rest) rest (omega arith))) c.byte_with-2.ensures c.in_ok-push-2.ensures.items c.loop-eight.invariant in
+    sym (append-nil c.push-2.new.self.items) ∙ ap (λ (bs : List ℕ). c.push-2.new.self.items ++ bs) (sym bytes-nil) ∙ last

@@ -3,8 +3,8 @@ use Rattle.value_codec.specs.Booleans.{bytes_behind}
 use Rattle.value_codec.specs.Coding.{truth_of}
 use Rattle.value_codec.proofs.bits.append_bits.Given as goal
 
-abbrev pub invariant-loop-rest : goal.invariant-loop-rest
-invariant-loop-rest l = l.out.items ++ bytes_behind 0 (map truth_of l.rest) ≡ l.initial.out.items ++ bytes_behind 0 (map truth_of l.values)
+abbrev pub invariant-loop-eight : goal.invariant-loop-eight
+invariant-loop-eight l = l.out.items ++ bytes_behind 0 (map truth_of l.rest) ≡ l.initial.out.items ++ bytes_behind 0 (map truth_of l.values)
 
-abbrev pub decreases-loop-rest : goal.decreases-loop-rest
-decreases-loop-rest l = length l.rest
+abbrev pub decreases-loop-eight : goal.decreases-loop-eight
+decreases-loop-eight l = length l.rest

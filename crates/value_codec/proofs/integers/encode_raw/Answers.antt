@@ -6,6 +6,6 @@ use Rattle.value_codec.proofs.integers.encode_raw.Goals as goal
 
 pub returns : goal.returns
 returns c =
-    c.in_ok-append_words.ensures
+    c.in_ok-write_words.ensures.ok
     ∙ ap (λ (bs : List ℕ). bs ++ flat_map big_endian c.args.rest.now) c.in_ok-out.ensures
     ∙ ap (λ (bs : List ℕ). (0 ∷ big_endian c.args.first) ++ bs) (sym (tail_raw c.args.rest.now))
