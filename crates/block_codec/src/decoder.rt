@@ -12,6 +12,7 @@ use word_codec::read_uvarint;
 /// The points whose block these bytes are, in the order of their times.
 pub fn decode_block(alloc: Global, bytes: &[u8]) -> Result<Vec<(Time, Value)>, BlockFault>
     ensures found { IfOk result (λ points. IsBlock bytes.now points.items) }
+    ensures range { IfOk result (λ points. All IsInRange (values_of points.items)) }
     ensures only { (points : List (ℤ × Value)) → IsBlock bytes.now points → All IsInRange (values_of points)
         → MatchResult result (λ found. found.items ≡ points) (λ e. e ≡ BlockFault.Memory) }
     ensures bad_kind { (byte : ℕ) → (result ≡ Err (BlockFault.BadKind byte)) ↔ HasBadKind byte bytes.now }

@@ -1,6 +1,6 @@
-ghost use Rattle.std.specs.Prelude.{◌≡◌, IfOk, map};
+ghost use Rattle.std.specs.Prelude.{◌≡◌, All, IfOk, map};
 ghost use Rattle.tsdb_types.specs.declared.value.Kind.{Kind};
-ghost use Rattle.value_codec.specs.Coding.{AreOf};
+ghost use Rattle.value_codec.specs.Coding.{AreOf, IsInRange};
 ghost use Rattle.time_codec.specs.Times.{AreTimes};
 ghost use Rattle.block_codec.specs.Blocks.{coded_block, times_of, values_of};
 
@@ -14,6 +14,8 @@ pub fn encode_block(alloc: Global, points: &[(Time, Value)]) -> Result<Vec<u8>, 
     requires times { AreTimes (times_of points.now) }
     requires one_kind { (kind : Kind) × AreOf kind (values_of points.now) }
     ensures ok { (kind : Kind) → AreOf kind (values_of points.now) → IfOk result (λ bytes. bytes.items ≡ coded_block kind points.now) }
+    // As all values are, so that `decode_block` owes its callers these points again.
+    ensures range { IfOk result (λ _. All IsInRange (values_of points.now)) }
 {
     let times = times_in(alloc, points)?;
     let values = values_in(alloc, points)?;
@@ -40,11 +42,25 @@ fn times_in(alloc: Global, points: &[(Time, Value)]) -> Result<Vec<Time>, AllocE
 }
 
 fn values_in(alloc: Global, points: &[(Time, Value)]) -> Result<Vec<Value>, AllocError>
-    ensures { IfOk result (λ values. values.items ≡ values_of points.now) }
+    ensures values { IfOk result (λ values. values.items ≡ values_of points.now) }
+    ensures range { IfOk result (λ values. All IsInRange values.items) }
 {
     let mut values = Vec::with_capacity(alloc, points.len())?;
     for (_, value) in points {
-        values.push(*value)?;
+        values.push(of_its_type(*value))?;
     }
     Ok(values)
+}
+
+/// A value, whose number has 64 bits.
+#[inline(always)]
+fn of_its_type(value: Value) -> Value
+    ensures same { result ≡ value }
+    ensures range { IsInRange result }
+{
+    match value {
+        Value::Int(number) => Value::Int(number),
+        Value::Uint(number) => Value::Uint(number),
+        Value::Bool(truth) => Value::Bool(truth),
+    }
 }

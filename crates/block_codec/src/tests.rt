@@ -8,15 +8,29 @@ const BLOCK: [u8; 24] = [
     0x02,
 ];
 
+/// Types of no kind, floats (0) and strings (3) among them; a block that is cut, one that a byte follows, and no bytes.
+const REFUSED: [(&[u8], BlockFault); 6] = [
+    (&[0, 0x0b], BlockFault::BadKind { byte: 0 }),
+    (&[3, 0x0b], BlockFault::BadKind { byte: 3 }),
+    (&[5], BlockFault::BadKind { byte: 5 }),
+    (
+        &[2, 9, 0x1c, 0, 0, 0, 0, 0, 0, 0, 0x0a, 0x10, 1],
+        BlockFault::BadBlock,
+    ),
+    (
+        &[2, 9, 0x1c, 0, 0, 0, 0, 0, 0, 0, 0x0a, 0x10, 1, 0x80, 0],
+        BlockFault::BadBlock,
+    ),
+    (&[], BlockFault::BadBlock),
+];
+
 #[test]
 fn a_block_by_hand(rt: HostRuntime) -> Result<(), Fail> {
     let points = decode_block(rt.alloc(), &BLOCK)?;
     assert_eq!(rt; points.len(), 3);
-    for (at, (time, value)) in points.iter().enumerate() {
-        assert!(rt; at < 3);
-        assert_eq!(rt; time.get(), 10 * (at as i64 + 1));
-        assert_eq!(rt; *value, Value::Int(1));
-    }
+    let (time, value) = *points.as_slice().last().ok_or("no point")?;
+    assert_eq!(rt; time.get(), 30);
+    assert_eq!(rt; value, Value::Int(1));
     Ok(())
 }
 
@@ -29,20 +43,13 @@ fn one_point(rt: HostRuntime) -> Result<(), Fail> {
     Ok(())
 }
 
-/// A type of none, floats (0) and strings (3), a byte that is cut or follows, and no byte at all.
 #[test]
 fn other_bytes_are_refused(rt: HostRuntime) {
-    let alloc = rt.alloc();
-    for byte in [0, 3, 5] {
-        let refused = decode_block(alloc, &[byte, 0x0b]).err();
-        assert_eq!(rt; refused, Some(BlockFault::BadKind { byte }));
+    for (bytes, fault) in REFUSED {
+        assert_eq!(rt;
+            decode_block(rt.alloc(), bytes).err(),
+            Some(fault),
+            "{bytes:?}"
+        );
     }
-    let (cut, _) = BLOCK.split_at(23);
-    assert_eq!(rt; decode_block(alloc, cut).err(), Some(BlockFault::BadBlock));
-    let longer = [2, 9, 0x1c, 0, 0, 0, 0, 0, 0, 0, 0x0a, 0x10, 1, 0x80, 0];
-    assert_eq!(rt;
-        decode_block(alloc, &longer).err(),
-        Some(BlockFault::BadBlock)
-    );
-    assert_eq!(rt; decode_block(alloc, &[]).err(), Some(BlockFault::BadBlock));
 }
