@@ -1,3 +1,5 @@
+mod cases;
+
 use super::*;
 use shard_disk::{Disk, Trouble, Writer};
 use std::fs;
@@ -22,6 +24,22 @@ fn files_are_adopted_written_read_and_removed(rt: HostRuntime) -> Result<(), Fai
     // A file that isn't there is removed.
     removed(rt, path)?;
     removed(rt, path)?;
+    fs::remove_dir_all(&rt, path)?;
+    Ok(())
+}
+
+#[test]
+fn a_folder_meets_every_case(rt: HostRuntime) -> Result<(), Fail> {
+    let temporary = std::env::temp_dir(&rt)?;
+    let path = format!(in rt.alloc();
+        "{}/tsmd_host_disk_cases",
+        temporary.as_path().to_string_lossy()
+    )?;
+    let path = path.as_str();
+    let _ = fs::remove_dir_all(&rt, path);
+    fs::create_dir_all(&rt, path)?;
+    let mut disk = HostDisk::open(rt, path)?;
+    assert_eq!(rt; cases::first_unmet(rt.alloc(), &mut disk)?, None);
     fs::remove_dir_all(&rt, path)?;
     Ok(())
 }

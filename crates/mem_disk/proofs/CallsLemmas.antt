@@ -1,9 +1,9 @@
 -- Calls that aren't named leave a device as steady as it was.
-use Rattle.std.proofs.Common.{◌≡◌, ℕ, ◌+◌, ◌≤◌, ◌<◌, Bool, true, false, ◌||◌, ◌&&◌, List, [], ◌∷◌, ◌≢◌, ◌⊎◌, inl, inr, min, refl, sym, ◌∙◌, ap, cond, eqb, ltb, eq-eqb, arith, Option, Some, None}
+use Rattle.std.proofs.Common.{◌≡◌, ℕ, ◌+◌, ◌≤◌, ◌<◌, Bool, true, false, ◌||◌, ◌&&◌, List, [], ◌∷◌, ◌≢◌, ◌⊎◌, inl, inr, min, refl, sym, ◌∙◌, ap, eqb, ltb, eq-eqb, arith, None}
 use Rattle.std.proofs.lemmas.Bool.{false≢true, cases_eq}
 use Rattle.shard_disk.specs.Health.{Health, Ages, Failed}
 use Rattle.std.proofs.lemmas.Bool.Decides.{nat_tests}
-use Rattle.std.specs.List.{list_any, list_all, filter_map}
+use Rattle.std.specs.List.{list_any, filter_map}
 use Rattle.mem_disk.specs.Calls.{is_at, is_past, read_of, write_of, is_quiet, is_over}
 use Rattle.mem_disk.specs.declared.fail.Fail.{Fail}
 use Rattle.mem_disk.specs.declared.fail.Fail.TheVariants.{Disk, Reader, Writer}

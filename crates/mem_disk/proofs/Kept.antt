@@ -1,10 +1,9 @@
 -- What one change more keeps of what is known of the files.
-use Rattle.std.proofs.Common.{◌≡◌, ◌≢◌, inl, inr, ⊎_elim, ℕ, ◌+◌, ◌<◌, ◌≤◌, List, [], ◌∷◌, ◌++◌, length, Bool, true, false, cond, eqb, refl, sym, ◌∙◌, ap, subst, arith, Option, Vec}
+use Rattle.std.proofs.Common.{◌≡◌, ◌≢◌, ⊎_elim, ℕ, List, [], ◌∷◌, ◌++◌, length, Bool, true, false, cond, eqb, refl, sym, ◌∙◌, ap, subst, Option, Vec}
 use Rattle.std.specs.Prelude.{reverse, IsSome}
 use Rattle.std.specs.declared.alloc.Global.{Global}
-use Rattle.std.specs.declared.option.Option.TheVariants.{None, Some}
+use Rattle.std.specs.declared.option.Option.TheVariants.{Some}
 use Rattle.std.proofs.lemmas.Bool.{cases_eq, false≢true}
-use Rattle.std.proofs.lemmas.Bool.Decides.{nat_tests}
 use Rattle.std.specs.BTreeMap as tree
 use Rattle.std.specs.BTreeMap.{BTreeMap}
 use Rattle.std.specs.BTreeSet as set
@@ -15,7 +14,7 @@ use Rattle.std.specs.Ordering.{nat_cmp}
 use Rattle.shard_disk.specs.Directory.{Directory, ChangesAt, Appears, IfThere, Overwritten, spliced}
 use Rattle.shard_disk.proofs.Steps.{inserted, get_inserted, get_inserted_other, get_removed, get_removed_other}
 use Rattle.mem_disk.specs.declared.change.Change.{Change}
-use Rattle.mem_disk.specs.declared.change.Change.TheVariants.{Added, Offered, Wrote, Tore, Synced, Removed, Condemned}
+use Rattle.mem_disk.specs.declared.change.Change.TheVariants.{Added, Wrote, Removed}
 use Rattle.mem_disk.specs.History.{bytes_of, reads, settled, written}
 use Rattle.mem_disk.proofs.Changes.{newest_first}
 use Rattle.mem_disk.proofs.Settled.{test_same, test_apart, written_other}

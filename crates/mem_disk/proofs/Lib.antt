@@ -1,6 +1,9 @@
+pub mod Built
 pub mod CallsLemmas
 pub mod Changes
-pub mod Results
-pub mod Settled
+pub mod Images
 pub mod Kept
 pub mod Listing
+pub mod Replaying
+pub mod Results
+pub mod Settled

@@ -1,13 +1,12 @@
 -- A file of which nothing is undetermined is durable.
-use Rattle.std.proofs.Common.{◌≡◌, ◌≢◌, ◌⊎◌, inl, inr, ⊎_elim, ℕ, List, [], ◌∷◌, ◌++◌, Bool, true, false, cond, eqb, eq-eqb, refl, sym, ◌∙◌, ap, subst, arith, Option, Vec}
+use Rattle.std.proofs.Common.{◌≡◌, ◌≢◌, ◌⊎◌, inl, inr, ⊎_elim, ℕ, List, [], ◌∷◌, Bool, true, false, cond, eqb, eq-eqb, refl, sym, ◌∙◌, ap, subst, arith, Option}
 use Rattle.std.specs.Prelude.{reverse, IsSome}
-use Rattle.std.specs.declared.alloc.Global.{Global}
 use Rattle.std.specs.declared.option.Option.TheVariants.{None, Some}
 use Rattle.std.proofs.lemmas.Bool.{cases_eq, false≢true}
 use Rattle.std.proofs.lemmas.Bool.Decides.{nat_tests}
 use Rattle.std.specs.FinMap.{get, get-empty}
 use Rattle.std.specs.Ordering.{nat_cmp}
-use Rattle.shard_disk.specs.Directory.{Directory, ChangesAt, spliced}
+use Rattle.shard_disk.specs.Directory.{Directory}
 use Rattle.shard_disk.specs.Crash.{IsDurable}
 use Rattle.shard_disk.proofs.Steps.{get_inserted, get_inserted_other, get_removed, get_removed_other}
 use Rattle.mem_disk.specs.declared.change.Change.{Change}

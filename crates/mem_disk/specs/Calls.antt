@@ -1,5 +1,5 @@
 -- Which calls fail, and what a device tells of its failures.
-use Rattle.std.specs.Prelude.{◌≡◌, ◌==◌, ℕ, Bool, true, false, List, Option, Some, None, nat_lt, if◌then◌else◌}
+use Rattle.std.specs.Prelude.{◌==◌, ℕ, Bool, false, List, Option, Some, None, nat_lt, if◌then◌else◌}
 use Rattle.std.specs.List.{list_all}
 use Rattle.mem_disk.specs.declared.fail.Fail.{Fail}
 use Rattle.mem_disk.specs.declared.fail.Fail.TheVariants.{Disk, Reader, Writer}

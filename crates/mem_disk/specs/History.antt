@@ -71,7 +71,7 @@ pub now_alone : (changes : List Change) (c : Directory) → (crashes_of changes)
 unfolding crashes_of
 now_alone changes c since = subst (λ (l : List Change). leaves (reverse l) c) (take_all since.0 changes (omega (arith, since.1))) since.3
 
-written_left : (files : Directory) (number at : ℕ) (bytes : List ℕ) (file : Option (List ℕ)) → get files number ≡ file → ChangesAt number (IfThere (Torn at (length bytes))) files (written file at bytes files number)
+pub written_left : (files : Directory) (number at : ℕ) (bytes : List ℕ) (file : Option (List ℕ)) → get files number ≡ file → ChangesAt number (IfThere (Torn at (length bytes))) files (written file at bytes files number)
 written_left files number at bytes None is = record { here = subst (λ (o : Option (List ℕ)). IfThere (Torn at (length bytes)) o o) (sym is) tt; others = λ n ne. refl }
 written_left files number at bytes (Some file) is = record {
   here =

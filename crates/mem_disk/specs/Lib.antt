@@ -1,7 +1,11 @@
+pub mod Building
+pub mod Called
 pub mod Calls
 pub mod Closed
 pub mod Fused
 pub mod HealthOf
 pub mod History
+pub mod Opened
 pub mod Progress
 pub mod Reads
+pub mod Replayed

@@ -1,7 +1,8 @@
 ghost use Rattle.std.specs.Prelude.{◌≡◌, ◌+◌, ◌≤◌, length, OnOk, OnErr};
-ghost use Rattle.shard_disk.specs.Directory.{spliced};
+ghost use Rattle.shard_disk.specs.Directory.{spliced, Overwritten, Torn};
 
-use std::alloc::AllocError;
+use crate::picks::Picks;
+use std::alloc::{AllocError, Global};
 
 /// Writes bytes over those at a place, and past the end. A refusal leaves all as it was.
 pub(crate) fn overwrite(file: &mut Vec<u8>, at: usize, bytes: &[u8]) -> Result<(), AllocError>
@@ -22,4 +23,30 @@ fn put(file: &mut [u8], at: usize, bytes: &[u8])
     ensures { file.new ≡ spliced file.old at (length bytes.now) bytes.now }
 {
     file[at..at + bytes.len()].copy_from_slice(bytes);
+}
+
+/// The same at any place. One past the end counts as the end.
+pub(crate) fn write_over(file: &mut Vec<u8>, at: u64, bytes: &[u8]) -> Result<(), AllocError>
+    ensures { OnOk result (Overwritten at bytes.now file.old.items file.new.items) }
+{
+    let start = (at as usize).min(file.len());
+    overwrite(file, start, bytes)?;
+    Ok(())
+}
+
+/// Leaves of a write of so many bytes what is picked: any bytes in its range, and some or none of those past the old end.
+pub(crate) fn tear(
+    alloc: Global,
+    file: &mut Vec<u8>,
+    at: u64,
+    len: usize,
+    picks: &mut Picks,
+) -> Result<(), AllocError>
+    ensures { OnOk result (Torn at len file.old.items file.new.items) }
+{
+    let inside = len.min(file.len().saturating_sub(at as usize));
+    let beyond = (len - inside).saturating_sub(picks.lost());
+    let part = picks.bytes(alloc, inside + beyond)?;
+    write_over(file, at, &part)?;
+    Ok(())
 }

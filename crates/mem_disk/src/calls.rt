@@ -1,6 +1,7 @@
 ghost use Rattle.std.specs.Prelude.{◌≡◌, ◌==◌, ◌&&◌, ◌+◌, min, IsTrue, IfOk, None, is_none, false};
 ghost use Rattle.std.specs.List.{list_any, filter_map};
 ghost use Rattle.mem_disk.specs.Calls.{is_at, is_quiet, read_of, write_of};
+ghost use Rattle.mem_disk.specs.Called.{is_failing_at};
 ghost use Rattle.shard_disk.specs.Health.{Ages, Failed, IsFresh, TakesOver, last_count};
 
 use crate::Fail;
@@ -25,6 +26,7 @@ pub(crate) struct DeviceCalls {
 }
 
 impl DiskCalls {
+    ghost use Rattle.mem_disk.specs.Called.{is_next_failing};
     ghost use Rattle.mem_disk.specs.HealthOf.{disk_health, device_health};
 
     pub(crate) fn new(failing: Vec<Fail>) -> DiskCalls
@@ -46,6 +48,8 @@ impl DiskCalls {
         ensures failed { IsTrue result → Failed (disk_health self.old) (disk_health self.new) }
         ensures ages { Ages (disk_health self.old) (disk_health self.new) }
         ensures passed { result ≡ false → disk_health self.new ≡ disk_health self.old }
+        ensures answer { result ≡ is_next_failing self.old }
+        ensures next { self.new.next ≡ min (self.old.next + 1) last_count }
         ensures failing { self.new.failing ≡ self.old.failing }
         ensures stop { self.new.stop ≡ self.old.stop }
     {
@@ -60,7 +64,10 @@ impl DiskCalls {
 
     /// Takes over the faults of a reader or writer.
     pub(crate) fn take_over(&mut self, device: &DeviceCalls)
-        ensures { TakesOver (device_health device.now) (disk_health self.old) (disk_health self.new) }
+        ensures health { TakesOver (device_health device.now) (disk_health self.old) (disk_health self.new) }
+        ensures failing { self.new.failing ≡ self.old.failing }
+        ensures next { self.new.next ≡ self.old.next }
+        ensures stop { self.new.stop ≡ self.old.stop }
     {
         self.faults = self.faults.saturating_add(device.faults);
     }
@@ -113,6 +120,7 @@ impl DeviceCalls {
 fn is_to_fail(failing: &[Fail], stop: Option<u64>, place: u64) -> bool
     ensures fails { IsTrue result → (is_none stop && is_quiet failing.now place) ≡ false }
     ensures passes { result ≡ false → list_any (is_at place) failing.now ≡ false }
+    ensures exact { result ≡ is_failing_at failing.now stop place }
 {
     if names_call(failing, place) {
         return true;

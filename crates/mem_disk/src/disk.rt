@@ -1,4 +1,4 @@
-ghost use Rattle.std.specs.Prelude.{◌≡◌, ◌+◌, ℕ, List, reverse, true, unwrap_or, OnOk, OnErr, ◌≤◌, ◌<◌, length, IfOk};
+ghost use Rattle.std.specs.Prelude.{◌≡◌, ◌+◌, ℕ, List, reverse, true, unwrap_or, OnOk, OnErr, ◌≤◌, ◌<◌, length, IfOk, IsTrue};
 ghost use Rattle.std.specs.BTreeMap as tree;
 ghost use Rattle.std.specs.FinMap as map;
 ghost use Rattle.std.specs.Option.{option_map};
@@ -9,6 +9,9 @@ ghost use Rattle.mem_disk.specs.History.{as_it_reads, reads, crashes_of, now_cou
 
 use crate::calls::DiskCalls;
 use crate::contents::Contents;
+use crate::image::contents_of;
+use crate::picks::Picks;
+use crate::replay::Replay;
 use crate::{Fail, MemReader, MemWriter, Progress};
 use shard_disk::{Disk, Fault, Trouble};
 use std::alloc::{AllocError, Global};
@@ -26,6 +29,7 @@ pub struct MemDisk {
 
 impl MemDisk {
     ghost use Rattle.mem_disk.specs.Closed.{closed_lowest_of};
+    ghost use Rattle.mem_disk.specs.Opened.{IsJustOpened};
 
     /// An empty directory, in every image that a crash may leave, on which these calls fail.
     pub fn new(alloc: Global, failing: Vec<Fail>) -> MemDisk
@@ -42,6 +46,34 @@ impl MemDisk {
             readers: BTreeMap::new(alloc),
             closed_lowest: None,
         }
+    }
+
+    /// One directory that a crash now may leave, as a disk that was just opened and on which no call fails. Want of
+    /// memory is the one error.
+    ///
+    /// What is undetermined is picked by the bytes of `choice`, taken in turn and after the last from the first again;
+    /// no bytes count as zeros. A file that may be there or not takes one, and is there where that is odd. A write that
+    /// may be torn takes one, and loses half as many of its bytes past the old end; then it takes one for each byte that
+    /// is left of its range, which is that byte. So 0 alone and 1 alone leave each such write in its whole length.
+    pub fn image(&self, choice: &[u8]) -> Result<MemDisk, AllocError>
+        ensures image { IfOk result (λ image. (⟦<MemDisk as Disk>⟧.crashes self.now).now (⟦<MemDisk as Disk>⟧.files image)) }
+        ensures durable { IfOk result (λ image. (left : map.FinMap nat_cmp (List ℕ)) → (⟦<MemDisk as Disk>⟧.crashes image).now left
+            → left ≡ ⟦<MemDisk as Disk>⟧.files image) }
+        ensures opened { IfOk result (λ image. IsJustOpened (⟦<MemDisk as Disk>⟧.files image) (⟦<MemDisk as Disk>⟧.handed_out image)) }
+        ensures no_fault { IfOk result (λ image. (⟦<MemDisk as Disk>⟧.health image).faults ≡ 0) }
+        ensures steady { IfOk result (λ image. IsTrue (⟦<MemDisk as Disk>⟧.health image).is_steady) }
+    {
+        let alloc = self.contents.alloc;
+        let mut picks = Picks::new(choice);
+        let mut replay = Replay::new(alloc);
+        replay.apply_all(&self.contents.changes, &mut picks)?;
+        let contents = contents_of(alloc, replay.into_left())?;
+        Ok(MemDisk {
+            calls: DiskCalls::new(Vec::new(alloc)),
+            contents,
+            readers: BTreeMap::new(alloc),
+            closed_lowest: None,
+        })
     }
 
     /// The bytes of a file, if it is there.
@@ -64,16 +96,23 @@ impl MemDisk {
 }
 
 impl Disk for MemDisk {
-    ghost use Rattle.std.specs.Prelude.{◌≡◌, ◌+◌, ◌<◌, ℕ, List, reverse, true, unwrap_or};
+    ghost use Rattle.std.specs.Prelude.{◌≡◌, ◌+◌, ◌<◌, ◌≤◌, [], ℕ, List, All, IsTrue, IfErr, IfOk, IsErrOf, OnErr, OnOk, is_err, length, reverse, true, unwrap_or};
     ghost use Rattle.std.specs.BTreeMap as tree;
+    ghost use Rattle.std.specs.FinMap.{keys};
     ghost use Rattle.std.specs.Ordering.{nat_cmp};
-    ghost use Rattle.shard_disk.specs.Crash.{Follows, Same};
+    ghost use Rattle.shard_disk.specs.Calls.Adopt.{Adopts, AdoptsNone};
+    ghost use Rattle.shard_disk.specs.Calls.Open.{Opens};
+    ghost use Rattle.shard_disk.specs.Crash.{Follows, IsDurable, Same};
+    ghost use Rattle.shard_disk.specs.Directory.{ChangesAt, HasFile, HasRange, IfThere, IsPresent, MadeOrNot, Overwritten, Torn, Vanishes, bytes_at};
     ghost use Rattle.shard_disk.specs.HandedOut.{OneMoreReader};
-    ghost use Rattle.shard_disk.specs.Health.{TakesOver};
-    ghost use Rattle.mem_disk.specs.Closed.{changes_of, closed_lowest_of, handed_out_of};
+    ghost use Rattle.shard_disk.specs.Health.{Ages, Failed, FaultHasCause, HasCause, IsFresh, TakesOver};
+    ghost use Rattle.shard_disk.specs.Stage.{Finished, Open};
+    ghost use Rattle.mem_disk.specs.Called.{IsCalled, IsUncounted, is_fault, is_refused_by_fault};
+    ghost use Rattle.mem_disk.specs.Closed.{closed_lowest_of, files_of, handed_out_of, health_of, left_of};
     ghost use Rattle.mem_disk.specs.HealthOf.{device_health, disk_health};
-    ghost use Rattle.mem_disk.specs.History.{as_it_reads, reads, crashes_of, now_counts, now_alone};
-    ghost use Rattle.mem_disk.specs.Reads.{lowest_of};
+    ghost use Rattle.mem_disk.specs.History.{as_it_reads, crashes_of, now_alone, now_counts, reads};
+    ghost use Rattle.mem_disk.specs.Progress.{stage_of};
+    ghost use Rattle.mem_disk.specs.Reads.{lowest_of, reads_of};
 
     type Reader = MemReader;
 
@@ -101,7 +140,16 @@ impl Disk for MemDisk {
 
     ghost only_now = { λ m c since. now_alone m.contents.changes.items c since };
 
-    fn begin(&mut self) -> Result<MemWriter, Trouble> {
+    fn begin(&mut self) -> Result<MemWriter, Trouble>
+        ensures empty { IfOk result (λ writer. writer.bytes.items ≡ []) }
+        ensures open { IfOk result (λ writer. stage_of writer.progress ≡ Open) }
+        ensures fresh { IfOk result (λ writer. IsFresh (health_of self.old) (device_health writer.calls)) }
+        ensures files { files_of self.new ≡ files_of self.old }
+        ensures crash { Follows Same (left_of self.old) (left_of self.new) }
+        ensures handed_out { handed_out_of self.new ≡ handed_out_of self.old }
+        ensures fault { HasCause result (health_of self.old) (health_of self.new) }
+        ensures call { IsCalled (is_fault result) self.old self.new }
+    {
         let maker = self.calls.next;
         if self.calls.fails() {
             return Err(Trouble::Fault);
@@ -114,7 +162,20 @@ impl Disk for MemDisk {
         })
     }
 
-    fn adopt(&mut self, writer: MemWriter) -> Result<u32, (MemWriter, Trouble)> {
+    fn adopt(&mut self, writer: MemWriter) -> Result<u32, (MemWriter, Trouble)>
+        requires { stage_of writer.progress ≡ Finished }
+        ensures ok { IfOk result (λ no. Adopts (IsTrue true) no writer.bytes.items
+            (files_of self.old) (files_of self.new) (left_of self.old) (left_of self.new) (handed_out_of self.old) (handed_out_of self.new)) }
+        ensures refused { OnErr result (AdoptsNone writer.bytes.items
+            (files_of self.old) (files_of self.new) (left_of self.old) (left_of self.new) (handed_out_of self.old) (handed_out_of self.new)) }
+        ensures returned { IfErr result (λ refused. refused.0 ≡ writer) }
+        ensures memory_crash { IfErr result (λ refused. refused.1 ≡ Trouble.Memory → Follows Same (left_of self.old) (left_of self.new)) }
+        ensures memory_number { IfErr result (λ refused. refused.1 ≡ Trouble.Memory → handed_out_of self.new ≡ handed_out_of self.old) }
+        ensures memory_health { IfErr result (λ refused. refused.1 ≡ Trouble.Memory → health_of self.new ≡ health_of self.old) }
+        ensures ages { Ages (health_of self.old) (health_of self.new) }
+        ensures fault { IfErr result (λ refused. refused.1 ≡ Trouble.Fault → Failed (health_of self.old) (health_of self.new)) }
+        ensures call { IsCalled (is_refused_by_fault result) self.old self.new }
+    {
         if self.calls.fails() {
             self.contents.refuse(&writer.bytes);
             return Err((writer, Trouble::Fault));
@@ -129,11 +190,29 @@ impl Disk for MemDisk {
         }
     }
 
-    fn drop_writer(&mut self, writer: MemWriter) {
+    fn drop_writer(&mut self, writer: MemWriter)
+        ensures files { files_of self.new ≡ files_of self.old }
+        ensures crash { Follows Same (left_of self.old) (left_of self.new) }
+        ensures handed_out { handed_out_of self.new ≡ handed_out_of self.old }
+        ensures health { TakesOver (device_health writer.calls) (health_of self.old) (health_of self.new) }
+        ensures uncounted { IsUncounted self.old self.new }
+    {
         self.calls.take_over(&writer.calls);
     }
 
-    fn open(&mut self, no: u32) -> Result<MemReader, Trouble> {
+    fn open(&mut self, no: u32) -> Result<MemReader, Trouble>
+        requires { IsPresent (files_of self.old) no }
+        ensures ok { IfOk result (λ reader. Opens (IsTrue true) no (files_of self.old) (handed_out_of self.old) reader.bytes.items) }
+        ensures file { IfOk result (λ reader. reader.no ≡ no) }
+        ensures fresh { IfOk result (λ reader. IsFresh (health_of self.old) (device_health reader.calls)) }
+        ensures unread { IfOk result (λ reader. reads_of reader ≡ 0) }
+        ensures out { OnOk result (OneMoreReader no (handed_out_of self.old) (handed_out_of self.new)) }
+        ensures refused { OnErr result (handed_out_of self.new ≡ handed_out_of self.old) }
+        ensures files { files_of self.new ≡ files_of self.old }
+        ensures crash { Follows Same (left_of self.old) (left_of self.new) }
+        ensures fault { HasCause result (health_of self.old) (health_of self.new) }
+        ensures call { IsCalled (is_fault result) self.old self.new }
+    {
         let maker = self.calls.next;
         if self.calls.fails() {
             return Err(Trouble::Fault);
@@ -160,10 +239,11 @@ impl Disk for MemDisk {
     fn close(&mut self, reader: MemReader)
         requires { 0 < (handed_out_of self.old).readers reader.no }
         ensures out { OneMoreReader reader.no (handed_out_of self.new) (handed_out_of self.old) }
-        ensures files { reads (reverse (changes_of self.new)) ≡ reads (reverse (changes_of self.old)) }
-        ensures crash { Follows Same (crashes_of (changes_of self.old)) (crashes_of (changes_of self.new)) }
-        ensures health { TakesOver (device_health reader.calls) (disk_health self.old.calls) (disk_health self.new.calls) }
+        ensures files { files_of self.new ≡ files_of self.old }
+        ensures crash { Follows Same (left_of self.old) (left_of self.new) }
+        ensures health { TakesOver (device_health reader.calls) (health_of self.old) (health_of self.new) }
         ensures lowest { closed_lowest_of self.new ≡ lowest_of reader }
+        ensures uncounted { IsUncounted self.old self.new }
     {
         self.calls.take_over(&reader.calls);
         self.closed_lowest = reader.lowest;
@@ -172,7 +252,17 @@ impl Disk for MemDisk {
         }
     }
 
-    fn write_at(&mut self, no: u32, at: u64, bytes: &[u8]) -> Result<(), Trouble> {
+    fn write_at(&mut self, no: u32, at: u64, bytes: &[u8]) -> Result<(), Trouble>
+        requires { HasRange (files_of self.old) no at 0 }
+        ensures written { OnOk result (ChangesAt no (IfThere (Overwritten at bytes.now)) (files_of self.old) (files_of self.new)) }
+        ensures torn { ChangesAt no (IfThere (Torn at (length bytes.now))) (files_of self.old) (files_of self.new) }
+        ensures crash { Follows (ChangesAt no (IfThere (Torn at (length bytes.now)))) (left_of self.old) (left_of self.new) }
+        ensures memory { IsErrOf result Trouble.Memory → files_of self.new ≡ files_of self.old }
+        ensures memory_crash { IsErrOf result Trouble.Memory → Follows Same (left_of self.old) (left_of self.new) }
+        ensures handed_out { handed_out_of self.new ≡ handed_out_of self.old }
+        ensures fault { HasCause result (health_of self.old) (health_of self.new) }
+        ensures call { IsCalled (is_fault result) self.old self.new }
+    {
         if self.calls.fails() {
             self.contents.fail_write(no, at, bytes);
             return Err(Trouble::Fault);
@@ -183,7 +273,15 @@ impl Disk for MemDisk {
         }
     }
 
-    fn sync(&mut self, no: u32) -> Result<(), Fault> {
+    fn sync(&mut self, no: u32) -> Result<(), Fault>
+        requires { IsPresent (files_of self.old) no }
+        ensures durable { OnOk result (IsDurable (files_of self.old) (left_of self.new) no) }
+        ensures files { files_of self.new ≡ files_of self.old }
+        ensures crash { Follows Same (left_of self.old) (left_of self.new) }
+        ensures handed_out { handed_out_of self.new ≡ handed_out_of self.old }
+        ensures fault { FaultHasCause result (health_of self.old) (health_of self.new) }
+        ensures call { IsCalled (is_err result) self.old self.new }
+    {
         if self.calls.fails() {
             return Err(Fault);
         }
@@ -191,7 +289,15 @@ impl Disk for MemDisk {
         Ok(())
     }
 
-    fn read_at(&mut self, no: u32, at: u64, out: &mut [u8]) -> Result<(), Fault> {
+    fn read_at(&mut self, no: u32, at: u64, out: &mut [u8]) -> Result<(), Fault>
+        requires { HasRange (files_of self.old) no at (length out.old) }
+        ensures read { OnOk result (HasFile (files_of self.old) no (λ file. out.new ≡ bytes_at file at (length out.old))) }
+        ensures files { files_of self.new ≡ files_of self.old }
+        ensures crash { Follows Same (left_of self.old) (left_of self.new) }
+        ensures handed_out { handed_out_of self.new ≡ handed_out_of self.old }
+        ensures fault { FaultHasCause result (health_of self.old) (health_of self.new) }
+        ensures call { IsCalled (is_err result) self.old self.new }
+    {
         if self.calls.fails() {
             return Err(Fault);
         }
@@ -201,14 +307,31 @@ impl Disk for MemDisk {
         Ok(())
     }
 
-    fn len(&mut self, no: u32) -> Result<u64, Fault> {
+    fn len(&mut self, no: u32) -> Result<u64, Fault>
+        requires { IsPresent (files_of self.old) no }
+        ensures length { IfOk result (λ len. HasFile (files_of self.old) no (λ file. len ≡ length file)) }
+        ensures known { OnOk result (no < (handed_out_of self.old).next_number) }
+        ensures files { files_of self.new ≡ files_of self.old }
+        ensures crash { Follows Same (left_of self.old) (left_of self.new) }
+        ensures handed_out { handed_out_of self.new ≡ handed_out_of self.old }
+        ensures fault { FaultHasCause result (health_of self.old) (health_of self.new) }
+        ensures call { IsCalled (is_err result) self.old self.new }
+    {
         if self.calls.fails() {
             return Err(Fault);
         }
         Ok(self.contents.files.get(&no).unwrap().len() as u64)
     }
 
-    fn remove(&mut self, no: u32) -> Result<(), Fault> {
+    fn remove(&mut self, no: u32) -> Result<(), Fault>
+        requires { (handed_out_of self.old).readers no ≡ 0 }
+        ensures removed { OnOk result (ChangesAt no Vanishes (files_of self.old) (files_of self.new)) }
+        ensures refused { OnErr result (files_of self.new ≡ files_of self.old) }
+        ensures crash { Follows (ChangesAt no (MadeOrNot Vanishes)) (left_of self.old) (left_of self.new) }
+        ensures handed_out { handed_out_of self.new ≡ handed_out_of self.old }
+        ensures fault { FaultHasCause result (health_of self.old) (health_of self.new) }
+        ensures call { IsCalled (is_err result) self.old self.new }
+    {
         if self.calls.fails() {
             self.contents.condemn(no);
             return Err(Fault);
@@ -217,7 +340,15 @@ impl Disk for MemDisk {
         Ok(())
     }
 
-    fn list(&mut self) -> Result<Vec<u32>, Trouble> {
+    fn list(&mut self) -> Result<Vec<u32>, Trouble>
+        ensures numbers { IfOk result (λ numbers. numbers.items ≡ keys (files_of self.old)) }
+        ensures known { IfOk result (λ numbers. All (λ no. no < (handed_out_of self.old).next_number) numbers.items) }
+        ensures files { files_of self.new ≡ files_of self.old }
+        ensures crash { Follows Same (left_of self.old) (left_of self.new) }
+        ensures handed_out { handed_out_of self.new ≡ handed_out_of self.old }
+        ensures fault { HasCause result (health_of self.old) (health_of self.new) }
+        ensures call { IsCalled (is_fault result) self.old self.new }
+    {
         if self.calls.fails() {
             return Err(Trouble::Fault);
         }

@@ -47,6 +47,25 @@ impl Fuse {
 }
 
 impl Disk for Fuse {
+    ghost use Rattle.std.specs.Prelude.{◌≡◌, ◌+◌, ◌<◌, ◌≤◌, [], ℕ, List, All, IsTrue, IfErr, IfOk, IsErrOf, OnErr, OnOk, is_err, length, reverse, true, unwrap_or};
+    ghost use Rattle.std.specs.BTreeMap as tree;
+    ghost use Rattle.std.specs.FinMap.{keys};
+    ghost use Rattle.std.specs.Ordering.{nat_cmp};
+    ghost use Rattle.shard_disk.specs.Calls.Adopt.{Adopts, AdoptsNone};
+    ghost use Rattle.shard_disk.specs.Calls.Open.{Opens};
+    ghost use Rattle.shard_disk.specs.Crash.{Follows, IsDurable, Same};
+    ghost use Rattle.shard_disk.specs.Directory.{ChangesAt, HasFile, HasRange, IfThere, IsPresent, MadeOrNot, Overwritten, Torn, Vanishes, bytes_at};
+    ghost use Rattle.shard_disk.specs.HandedOut.{OneMoreReader};
+    ghost use Rattle.shard_disk.specs.Health.{Ages, Failed, FaultHasCause, HasCause, IsFresh, TakesOver};
+    ghost use Rattle.shard_disk.specs.Stage.{Finished, Open};
+    ghost use Rattle.mem_disk.specs.Called.{IsCalled, IsUncounted, is_fault, is_refused_by_fault};
+    ghost use Rattle.mem_disk.specs.Closed.{closed_lowest_of, files_of, handed_out_of, health_of, left_of};
+    ghost use Rattle.mem_disk.specs.Fused.{disk_of};
+    ghost use Rattle.mem_disk.specs.HealthOf.{device_health, disk_health};
+    ghost use Rattle.mem_disk.specs.History.{as_it_reads, crashes_of, now_alone, now_counts, reads};
+    ghost use Rattle.mem_disk.specs.Progress.{stage_of};
+    ghost use Rattle.mem_disk.specs.Reads.{lowest_of, reads_of};
+
     type Reader = MemReader;
 
     type Writer = MemWriter;
@@ -73,47 +92,146 @@ impl Disk for Fuse {
 
     ghost only_now = { λ f c since. now_alone f.disk.contents.changes.items c since };
 
-    fn begin(&mut self) -> Result<MemWriter, Trouble> {
+    fn begin(&mut self) -> Result<MemWriter, Trouble>
+        ensures empty { IfOk result (λ writer. writer.bytes.items ≡ []) }
+        ensures open { IfOk result (λ writer. stage_of writer.progress ≡ Open) }
+        ensures fresh { IfOk result (λ writer. IsFresh (health_of (disk_of self.old)) (device_health writer.calls)) }
+        ensures files { files_of (disk_of self.new) ≡ files_of (disk_of self.old) }
+        ensures crash { Follows Same (left_of (disk_of self.old)) (left_of (disk_of self.new)) }
+        ensures handed_out { handed_out_of (disk_of self.new) ≡ handed_out_of (disk_of self.old) }
+        ensures fault { HasCause result (health_of (disk_of self.old)) (health_of (disk_of self.new)) }
+        ensures call { IsCalled (is_fault result) (disk_of self.old) (disk_of self.new) }
+    {
         self.disk.begin()
     }
 
-    fn adopt(&mut self, writer: MemWriter) -> Result<u32, (MemWriter, Trouble)> {
+    fn adopt(&mut self, writer: MemWriter) -> Result<u32, (MemWriter, Trouble)>
+        requires { stage_of writer.progress ≡ Finished }
+        ensures ok { IfOk result (λ no. Adopts (IsTrue true) no writer.bytes.items
+            (files_of (disk_of self.old)) (files_of (disk_of self.new)) (left_of (disk_of self.old)) (left_of (disk_of self.new)) (handed_out_of (disk_of self.old)) (handed_out_of (disk_of self.new))) }
+        ensures refused { OnErr result (AdoptsNone writer.bytes.items
+            (files_of (disk_of self.old)) (files_of (disk_of self.new)) (left_of (disk_of self.old)) (left_of (disk_of self.new)) (handed_out_of (disk_of self.old)) (handed_out_of (disk_of self.new))) }
+        ensures returned { IfErr result (λ refused. refused.0 ≡ writer) }
+        ensures memory_crash { IfErr result (λ refused. refused.1 ≡ Trouble.Memory → Follows Same (left_of (disk_of self.old)) (left_of (disk_of self.new))) }
+        ensures memory_number { IfErr result (λ refused. refused.1 ≡ Trouble.Memory → handed_out_of (disk_of self.new) ≡ handed_out_of (disk_of self.old)) }
+        ensures memory_health { IfErr result (λ refused. refused.1 ≡ Trouble.Memory → health_of (disk_of self.new) ≡ health_of (disk_of self.old)) }
+        ensures ages { Ages (health_of (disk_of self.old)) (health_of (disk_of self.new)) }
+        ensures fault { IfErr result (λ refused. refused.1 ≡ Trouble.Fault → Failed (health_of (disk_of self.old)) (health_of (disk_of self.new))) }
+        ensures call { IsCalled (is_refused_by_fault result) (disk_of self.old) (disk_of self.new) }
+    {
         self.disk.adopt(writer)
     }
 
-    fn drop_writer(&mut self, writer: MemWriter) {
+    fn drop_writer(&mut self, writer: MemWriter)
+        ensures files { files_of (disk_of self.new) ≡ files_of (disk_of self.old) }
+        ensures crash { Follows Same (left_of (disk_of self.old)) (left_of (disk_of self.new)) }
+        ensures handed_out { handed_out_of (disk_of self.new) ≡ handed_out_of (disk_of self.old) }
+        ensures health { TakesOver (device_health writer.calls) (health_of (disk_of self.old)) (health_of (disk_of self.new)) }
+        ensures uncounted { IsUncounted (disk_of self.old) (disk_of self.new) }
+    {
         self.disk.drop_writer(writer);
     }
 
-    fn open(&mut self, no: u32) -> Result<MemReader, Trouble> {
+    fn open(&mut self, no: u32) -> Result<MemReader, Trouble>
+        requires { IsPresent (files_of (disk_of self.old)) no }
+        ensures ok { IfOk result (λ reader. Opens (IsTrue true) no (files_of (disk_of self.old)) (handed_out_of (disk_of self.old)) reader.bytes.items) }
+        ensures file { IfOk result (λ reader. reader.no ≡ no) }
+        ensures fresh { IfOk result (λ reader. IsFresh (health_of (disk_of self.old)) (device_health reader.calls)) }
+        ensures unread { IfOk result (λ reader. reads_of reader ≡ 0) }
+        ensures out { OnOk result (OneMoreReader no (handed_out_of (disk_of self.old)) (handed_out_of (disk_of self.new))) }
+        ensures refused { OnErr result (handed_out_of (disk_of self.new) ≡ handed_out_of (disk_of self.old)) }
+        ensures files { files_of (disk_of self.new) ≡ files_of (disk_of self.old) }
+        ensures crash { Follows Same (left_of (disk_of self.old)) (left_of (disk_of self.new)) }
+        ensures fault { HasCause result (health_of (disk_of self.old)) (health_of (disk_of self.new)) }
+        ensures call { IsCalled (is_fault result) (disk_of self.old) (disk_of self.new) }
+    {
         self.disk.open(no)
     }
 
-    fn close(&mut self, reader: MemReader) {
+    fn close(&mut self, reader: MemReader)
+        requires { 0 < (handed_out_of (disk_of self.old)).readers reader.no }
+        ensures out { OneMoreReader reader.no (handed_out_of (disk_of self.new)) (handed_out_of (disk_of self.old)) }
+        ensures files { files_of (disk_of self.new) ≡ files_of (disk_of self.old) }
+        ensures crash { Follows Same (left_of (disk_of self.old)) (left_of (disk_of self.new)) }
+        ensures health { TakesOver (device_health reader.calls) (health_of (disk_of self.old)) (health_of (disk_of self.new)) }
+        ensures lowest { closed_lowest_of (disk_of self.new) ≡ lowest_of reader }
+        ensures uncounted { IsUncounted (disk_of self.old) (disk_of self.new) }
+    {
         self.disk.close(reader);
     }
 
-    fn write_at(&mut self, no: u32, at: u64, bytes: &[u8]) -> Result<(), Trouble> {
+    fn write_at(&mut self, no: u32, at: u64, bytes: &[u8]) -> Result<(), Trouble>
+        requires { HasRange (files_of (disk_of self.old)) no at 0 }
+        ensures written { OnOk result (ChangesAt no (IfThere (Overwritten at bytes.now)) (files_of (disk_of self.old)) (files_of (disk_of self.new))) }
+        ensures torn { ChangesAt no (IfThere (Torn at (length bytes.now))) (files_of (disk_of self.old)) (files_of (disk_of self.new)) }
+        ensures crash { Follows (ChangesAt no (IfThere (Torn at (length bytes.now)))) (left_of (disk_of self.old)) (left_of (disk_of self.new)) }
+        ensures memory { IsErrOf result Trouble.Memory → files_of (disk_of self.new) ≡ files_of (disk_of self.old) }
+        ensures memory_crash { IsErrOf result Trouble.Memory → Follows Same (left_of (disk_of self.old)) (left_of (disk_of self.new)) }
+        ensures handed_out { handed_out_of (disk_of self.new) ≡ handed_out_of (disk_of self.old) }
+        ensures fault { HasCause result (health_of (disk_of self.old)) (health_of (disk_of self.new)) }
+        ensures call { IsCalled (is_fault result) (disk_of self.old) (disk_of self.new) }
+    {
         self.disk.write_at(no, at, bytes)
     }
 
-    fn sync(&mut self, no: u32) -> Result<(), Fault> {
+    fn sync(&mut self, no: u32) -> Result<(), Fault>
+        requires { IsPresent (files_of (disk_of self.old)) no }
+        ensures durable { OnOk result (IsDurable (files_of (disk_of self.old)) (left_of (disk_of self.new)) no) }
+        ensures files { files_of (disk_of self.new) ≡ files_of (disk_of self.old) }
+        ensures crash { Follows Same (left_of (disk_of self.old)) (left_of (disk_of self.new)) }
+        ensures handed_out { handed_out_of (disk_of self.new) ≡ handed_out_of (disk_of self.old) }
+        ensures fault { FaultHasCause result (health_of (disk_of self.old)) (health_of (disk_of self.new)) }
+        ensures call { IsCalled (is_err result) (disk_of self.old) (disk_of self.new) }
+    {
         self.disk.sync(no)
     }
 
-    fn read_at(&mut self, no: u32, at: u64, out: &mut [u8]) -> Result<(), Fault> {
+    fn read_at(&mut self, no: u32, at: u64, out: &mut [u8]) -> Result<(), Fault>
+        requires { HasRange (files_of (disk_of self.old)) no at (length out.old) }
+        ensures read { OnOk result (HasFile (files_of (disk_of self.old)) no (λ file. out.new ≡ bytes_at file at (length out.old))) }
+        ensures files { files_of (disk_of self.new) ≡ files_of (disk_of self.old) }
+        ensures crash { Follows Same (left_of (disk_of self.old)) (left_of (disk_of self.new)) }
+        ensures handed_out { handed_out_of (disk_of self.new) ≡ handed_out_of (disk_of self.old) }
+        ensures fault { FaultHasCause result (health_of (disk_of self.old)) (health_of (disk_of self.new)) }
+        ensures call { IsCalled (is_err result) (disk_of self.old) (disk_of self.new) }
+    {
         self.disk.read_at(no, at, out)
     }
 
-    fn len(&mut self, no: u32) -> Result<u64, Fault> {
+    fn len(&mut self, no: u32) -> Result<u64, Fault>
+        requires { IsPresent (files_of (disk_of self.old)) no }
+        ensures length { IfOk result (λ len. HasFile (files_of (disk_of self.old)) no (λ file. len ≡ length file)) }
+        ensures known { OnOk result (no < (handed_out_of (disk_of self.old)).next_number) }
+        ensures files { files_of (disk_of self.new) ≡ files_of (disk_of self.old) }
+        ensures crash { Follows Same (left_of (disk_of self.old)) (left_of (disk_of self.new)) }
+        ensures handed_out { handed_out_of (disk_of self.new) ≡ handed_out_of (disk_of self.old) }
+        ensures fault { FaultHasCause result (health_of (disk_of self.old)) (health_of (disk_of self.new)) }
+        ensures call { IsCalled (is_err result) (disk_of self.old) (disk_of self.new) }
+    {
         self.disk.len(no)
     }
 
-    fn remove(&mut self, no: u32) -> Result<(), Fault> {
+    fn remove(&mut self, no: u32) -> Result<(), Fault>
+        requires { (handed_out_of (disk_of self.old)).readers no ≡ 0 }
+        ensures removed { OnOk result (ChangesAt no Vanishes (files_of (disk_of self.old)) (files_of (disk_of self.new))) }
+        ensures refused { OnErr result (files_of (disk_of self.new) ≡ files_of (disk_of self.old)) }
+        ensures crash { Follows (ChangesAt no (MadeOrNot Vanishes)) (left_of (disk_of self.old)) (left_of (disk_of self.new)) }
+        ensures handed_out { handed_out_of (disk_of self.new) ≡ handed_out_of (disk_of self.old) }
+        ensures fault { FaultHasCause result (health_of (disk_of self.old)) (health_of (disk_of self.new)) }
+        ensures call { IsCalled (is_err result) (disk_of self.old) (disk_of self.new) }
+    {
         self.disk.remove(no)
     }
 
-    fn list(&mut self) -> Result<Vec<u32>, Trouble> {
+    fn list(&mut self) -> Result<Vec<u32>, Trouble>
+        ensures numbers { IfOk result (λ numbers. numbers.items ≡ keys (files_of (disk_of self.old))) }
+        ensures known { IfOk result (λ numbers. All (λ no. no < (handed_out_of (disk_of self.old)).next_number) numbers.items) }
+        ensures files { files_of (disk_of self.new) ≡ files_of (disk_of self.old) }
+        ensures crash { Follows Same (left_of (disk_of self.old)) (left_of (disk_of self.new)) }
+        ensures handed_out { handed_out_of (disk_of self.new) ≡ handed_out_of (disk_of self.old) }
+        ensures fault { HasCause result (health_of (disk_of self.old)) (health_of (disk_of self.new)) }
+        ensures call { IsCalled (is_fault result) (disk_of self.old) (disk_of self.new) }
+    {
         self.disk.list()
     }
 }

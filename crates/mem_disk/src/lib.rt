@@ -9,7 +9,10 @@ mod contents;
 mod disk;
 mod fail;
 mod fuse;
+mod image;
+mod picks;
 mod reader;
+mod replay;
 mod writer;
 
 pub use change::Change;

@@ -1,4 +1,4 @@
-use Rattle.std.proofs.Common.{◌≡◌, sym, ◌∙◌}
+use Rattle.std.proofs.Common.{sym, ◌∙◌}
 use Rattle.std.specs.Prelude.{is_none}
 use Rattle.mem_disk.specs.Calls.{is_quiet}
 use Rattle.mem_disk.proofs.CallsLemmas.{named_quiet, and_false}

@@ -1,6 +1,5 @@
 use Rattle.std.proofs.Common.{◌≡◌, eqb, true, false, sym, ◌∙◌, arith}
 use Rattle.std.specs.List.{list_any}
-use Rattle.mem_disk.specs.Calls.{is_over}
 use Rattle.mem_disk.proofs.CallsLemmas.{over_same, named_over, same_health, health_ages, counted, counted_ages}
 use Rattle.mem_disk.proofs.calls.DeviceCalls.fails.Goals as goal
 

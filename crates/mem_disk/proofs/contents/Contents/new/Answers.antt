@@ -1,4 +1,4 @@
-use Rattle.std.proofs.Common.{◌≡◌, ◌+◌, ◌≤◌, ℕ, [], List, sym, ◌∙◌, ap, subst, None, Option, true, arith, length}
+use Rattle.std.proofs.Common.{◌≡◌, ℕ, [], List, sym, ◌∙◌, ap, subst, None, Option, arith}
 use Rattle.std.specs.Prelude.{reverse, IsSome}
 use Rattle.std.specs.BTreeMap as tree
 use Rattle.std.specs.Map.{lookup}
@@ -6,7 +6,7 @@ use Rattle.std.specs.FinMap.{get, get-empty}
 use Rattle.std.specs.Ordering.{nat_cmp}
 use Rattle.std.proofs.lemmas.Bool.{false≢true}
 use Rattle.mem_disk.specs.declared.change.Change.{Change}
-use Rattle.mem_disk.specs.History.{bytes_of, reads, settled}
+use Rattle.mem_disk.specs.History.{bytes_of, reads}
 use Rattle.mem_disk.proofs.contents.Contents.new.Goals as goal
 
 none_yet : (changes : List Change) (n : ℕ) → changes ≡ [] → get (reads (reverse changes)) n ≡ None

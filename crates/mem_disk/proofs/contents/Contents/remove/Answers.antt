@@ -1,9 +1,7 @@
-use Rattle.std.proofs.Common.{◌≡◌, ◌≢◌, ℕ, [], ◌∷◌, List, inl, refl, sym, ◌∙◌, ap, arith}
+use Rattle.std.proofs.Common.{inl, refl, arith}
 use Rattle.std.specs.BTreeMap.{btree_map_len}
-use Rattle.std.specs.Prelude.{reverse}
 use Rattle.shard_disk.proofs.Runs.{adds_nothing}
 use Rattle.shard_disk.proofs.Steps.{changes_same}
-use Rattle.mem_disk.specs.declared.change.Change.{Change}
 use Rattle.mem_disk.specs.declared.change.Change.TheVariants.{Removed}
 use Rattle.mem_disk.proofs.Changes.{follows_same, follows_removed, removed_agrees, removed_below}
 use Rattle.mem_disk.proofs.Kept.{removed_was, settled_now}

@@ -1,13 +1,10 @@
-use Rattle.std.proofs.Common.{◌≡◌, ◌++◌, [], ◌∷◌, ℕ, List, true, false, length, rules, arith, refl, sym, subst, ◌∙◌, ap, Option, Some}
+use Rattle.std.proofs.Common.{◌≡◌, ◌++◌, [], ◌∷◌, ℕ, List, false, rules, arith, refl, sym, subst, ◌∙◌, ap, Option, Some}
 use Rattle.std.specs.Option.{option_copied_mut}
 use Rattle.std.specs.BTreeMap as tree
-use Rattle.std.specs.BTreeMap.{btree_map_len}
 use Rattle.std.specs.BTreeSet.{btree_set_len}
-use Rattle.std.specs.FinMap.{get}
 use Rattle.std.specs.Ordering.{nat_cmp}
 use Rattle.std.specs.Prelude.{reverse, IsSome}
-use Rattle.shard_disk.specs.Directory.{spliced}
-use Rattle.mem_disk.specs.History.{bytes_of, reads}
+use Rattle.mem_disk.specs.History.{bytes_of}
 use Rattle.mem_disk.specs.declared.change.Change.{Change}
 use Rattle.mem_disk.specs.declared.change.Change.TheVariants.{Wrote}
 use Rattle.mem_disk.proofs.Changes.{wrote_agrees, wrote_below, follows_wrote}

@@ -20,7 +20,7 @@ pub returns-clause-numbers : goal.returns-clause-numbers
 returns-clause-numbers c =
     let m = c.args.self.now.contents in
     let collected : c.in_ok-collect.field-0.items ≡ tree.keys m.files = search rules in
-    λ told. collected ∙ keys_are m.files c.keys.ensures.ordered (reads (reverse m.changes.items)) m.agrees
+    collected ∙ keys_are m.files c.keys.ensures.ordered (reads (reverse m.changes.items)) m.agrees
 
 pub returns-clause-known : goal.returns-clause-known
 returns-clause-known c =

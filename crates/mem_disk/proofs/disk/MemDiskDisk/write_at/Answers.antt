@@ -11,12 +11,12 @@ use Rattle.mem_disk.proofs.disk.MemDiskDisk.write_at.Goals as goal
 pub returns-then-fails-clause-torn : goal.returns-then-fails-clause-torn
 returns-then-fails-clause-torn c =
     let past = reads (reverse c.args.self.now.contents.changes.items) in
-    λ told. subst (λ (d : Directory). ChangesAt c.args.no (IfThere (Torn c.args.at (length c.args.bytes.now))) past d) (sym c.fail_write.ensures.reads) (torn_at_same c.args.no c.args.at (length c.args.bytes.now) past)
+    subst (λ (d : Directory). ChangesAt c.args.no (IfThere (Torn c.args.at (length c.args.bytes.now))) past d) (sym c.fail_write.ensures.reads) (torn_at_same c.args.no c.args.at (length c.args.bytes.now) past)
 
 pub returns-in-Err-clause-torn : goal.returns-in-Err-clause-torn
 returns-in-Err-clause-torn c =
     let past = reads (reverse c.args.self.now.contents.changes.items) in
-    λ told. subst (λ (l : List Change). ChangesAt c.args.no (IfThere (Torn c.args.at (length c.args.bytes.now))) past (reads (reverse l))) (sym c.in-Err.ensures.err) (torn_at_same c.args.no c.args.at (length c.args.bytes.now) past)
+    subst (λ (l : List Change). ChangesAt c.args.no (IfThere (Torn c.args.at (length c.args.bytes.now))) past (reads (reverse l))) (sym c.in-Err.ensures.err) (torn_at_same c.args.no c.args.at (length c.args.bytes.now) past)
 
 pub returns-in-Err-clause-crash : goal.returns-in-Err-clause-crash
 returns-in-Err-clause-crash c =
