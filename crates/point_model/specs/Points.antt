@@ -1,9 +1,10 @@
 -- What the points of a database are: a finite map from cells to values.
-use Rattle.std.specs.Prelude.{List, []}
+use Rattle.std.specs.Prelude.{List, [], Option}
 use Rattle.std.specs.declared.cmp.Ordering.{Ordering}
 use Rattle.std.specs.Ordering.{nat_cmp, int_cmp, ordering_then}
 use Rattle.std.specs.Cmp.Lexicographic.{slice_cmp}
-use Rattle.std.specs.BTreeMap.{insert_entry}
+use Rattle.std.specs.BTreeMap.{insert_entry, is_at}
+use Rattle.std.specs.Map.{lookup}
 use Rattle.tsdb_types.specs.declared.point.Cell.{Cell}
 use Rattle.tsdb_types.specs.declared.point.Point.{Point}
 use Rattle.tsdb_types.specs.declared.value.Value.{Value}
@@ -22,3 +23,7 @@ no_points = []
 -- the points with this one set: it takes the place of an older value of its cell
 abbrev pub with_point : Points → Point → Points
 with_point points point = insert_entry cell_cmp points point.cell point.value
+
+-- the value at a cell
+abbrev pub value_at : Points → Cell → Option Value
+value_at points cell = lookup (is_at (cell_cmp cell)) points
