@@ -1,7 +1,6 @@
-use Rattle.std.proofs.Common.{append-nil, ◌≡◌, ℕ, ◌+◌, ◌<◌, ◌≤◌, inl, ⊎_elim, length, Option, None, Result, Ok, Err, List, [], ◌∷◌, ◌++◌, ℤ, refl, sym, ap, subst, ◌∙◌, append_assoc, eqb}
+use Rattle.std.proofs.Common.{append-nil, ◌≡◌, ℕ, ◌+◌, ◌<◌, ◌≤◌, inl, ⊎_elim, length, Ok, Err, List, [], ◌∷◌, ◌++◌, ℤ, refl, sym, ap, subst, ◌∙◌, append_assoc}
 use Rattle.std.proofs.lemmas.Bool.{cases_lt}
 use Rattle.tsdb_types.specs.declared.point.Point.{Point}
-use Rattle.tsdb_types.specs.declared.value.Kind.{Kind}
 use Rattle.line_protocol.specs.declared.fault.LineCode.{LineCode}
 use Rattle.line_protocol.specs.declared.fault.LineFault.{LineFault}
 use Rattle.line_protocol.specs.declared.fault.Refusal.{Refusal}
@@ -9,8 +8,8 @@ use Rattle.line_protocol.specs.declared.fault.Refusal.TheVariants as refusal
 use Rattle.line_protocol.specs.Readings.{IsRefusal}
 use Rattle.line_protocol.specs.declared.fault.LineFault.TheVariants.{Line}
 use Rattle.line_protocol.specs.Batches.{At, Points, IsTooLong, FaultGives, fault_of, lines_of, points_before, LinesAre}
-use Rattle.line_protocol.specs.Kinds.{Seen, nothing_seen}
-use Rattle.line_protocol.specs.Lines.{Read, AnyLineIs}
+use Rattle.line_protocol.specs.Kinds.{Seen}
+use Rattle.line_protocol.specs.Lines.{AnyLineIs}
 use Rattle.line_protocol.specs.Parts.{line_front, line_rest, lines_behind, trimmed}
 use Rattle.line_protocol.proofs.PartLemmas.{lines-first}
 

@@ -1,4 +1,4 @@
-use Rattle.std.proofs.Common.{◌≡◌, ◌↔◌, ℕ, zero, suc, ◌+◌, ◌<◌, ◌≤◌, ◌^◌, Bool, true, false, cond, ◌||◌, eqb, ltb, ◌⊎◌, inl, inr, ⊎_elim, Option, Some, None, Result, Ok, Err, List, [], ◌∷◌, ◌++◌, length, get_or, take, drop, map, ℤ, refl, sym, ap, subst, ◌∙◌, arith}
+use Rattle.std.proofs.Common.{◌≡◌, ◌↔◌, ℕ, zero, suc, ◌+◌, ◌<◌, ◌≤◌, ◌^◌, Bool, true, false, cond, ◌||◌, eqb, ltb, ◌⊎◌, inl, inr, ⊎_elim, Option, Some, None, Result, Ok, Err, List, [], ◌∷◌, ◌++◌, length, get_or, take, drop, ℤ, refl, sym, ap, subst, ◌∙◌, arith}
 use Rattle.std.specs.Bool.{MatchBool}
 use Rattle.std.specs.Option.{MatchOption}
 use Rattle.std.proofs.lemmas.Bool.{false≢true, cases_lt, eqb-true}
@@ -34,7 +34,7 @@ or-right : (a : Bool) → (a || true) ≡ true
 or-right true = refl
 or-right false = refl
 
-cut-at : (series field : List ℕ) (at : ℕ) → at < length series → MarkAt (key_of series field) at → is_cut_short series field ≡ true
+pub cut-at : (series field : List ℕ) (at : ℕ) → at < length series → MarkAt (key_of series field) at → is_cut_short series field ≡ true
 cut-at [] field at l m = absurd (omega arith)
 cut-at (byte ∷ series) field zero l m =
     ap (λ (t : Bool). t || is_cut_short series field) ((bytes_eq-Decides (take 4 (key_of (byte ∷ series) field)) mark).1 m)

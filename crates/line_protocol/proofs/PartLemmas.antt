@@ -1,4 +1,4 @@
-use Rattle.std.proofs.Common.{◌≡◌, ◌≢◌, ℕ, zero, suc, ◌+◌, ◌-◌, ◌<◌, ◌≤◌, Bool, true, false, cond, not, ◌&&◌, eqb, ◌⊎◌, inl, inr, ⊎_elim, List, [], ◌∷◌, ◌++◌, length, get_or, drop, refl, sym, ap, subst, ◌∙◌, arith}
+use Rattle.std.proofs.Common.{◌≡◌, ℕ, ◌≤◌, Bool, true, false, cond, not, ◌&&◌, eqb, ◌⊎◌, inl, inr, ⊎_elim, List, [], ◌∷◌, ◌++◌, length, refl, sym, ap, ◌∙◌, arith}
 use Rattle.std.proofs.lemmas.Bool.{false≢true}
 use Rattle.std.proofs.lemmas.Bool.Decides.{nat_tests}
 use Rattle.std.specs.List.{onto_first, slice_split}
@@ -72,10 +72,10 @@ parts-stop mark slash byte text e = ap (λ (t : Bool). cond t ([] ∷ parts mark
 parts-go : (mark : ℕ) (slash : Bool) (byte : ℕ) (text : List ℕ) → (eqb byte mark && not slash) ≡ false → parts mark slash (byte ∷ text) ≡ onto_first byte (parts mark (eqb byte 92) text)
 parts-go mark slash byte text e = ap (λ (t : Bool). cond t ([] ∷ parts mark false text) (onto_first byte (parts mark (eqb byte 92) text))) e
 
-front-goes : (mark : ℕ) (slash : Bool) (byte : ℕ) (text : List ℕ) → (eqb byte mark && not slash) ≡ false → front mark slash (byte ∷ text) ≡ byte ∷ front mark (eqb byte 92) text
+pub front-goes : (mark : ℕ) (slash : Bool) (byte : ℕ) (text : List ℕ) → (eqb byte mark && not slash) ≡ false → front mark slash (byte ∷ text) ≡ byte ∷ front mark (eqb byte 92) text
 front-goes mark slash byte text e = ap (λ (t : Bool). cond t [] (byte ∷ front mark (eqb byte 92) text)) e
 
-rest-goes : (mark : ℕ) (slash : Bool) (byte : ℕ) (text : List ℕ) → (eqb byte mark && not slash) ≡ false → rest mark slash (byte ∷ text) ≡ rest mark (eqb byte 92) text
+pub rest-goes : (mark : ℕ) (slash : Bool) (byte : ℕ) (text : List ℕ) → (eqb byte mark && not slash) ≡ false → rest mark slash (byte ∷ text) ≡ rest mark (eqb byte 92) text
 rest-goes mark slash byte text e = ap (λ (t : Bool). cond t (byte ∷ text) (rest mark (eqb byte 92) text)) e
 
 -- the first part, and the parts behind its mark

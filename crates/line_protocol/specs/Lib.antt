@@ -5,6 +5,8 @@ pub mod Kinds
 pub mod Lines
 pub mod Names
 pub mod Numbers
+pub mod Once
 pub mod Parts
 pub mod Readings
+pub mod Texts
 pub mod Values

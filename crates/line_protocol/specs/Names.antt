@@ -1,5 +1,5 @@
 -- Which name a part of a line spells, and how a tag and a field are cut at their equals sign.
-use Rattle.std.specs.Prelude.{ℕ, Bool, true, false, not, ◌&&◌, ◌==◌, List, [], ◌∷◌, length, if◌then◌else◌}
+use Rattle.std.specs.Prelude.{ℕ, Bool, false, not, ◌&&◌, ◌==◌, List, [], ◌∷◌, length, if◌then◌else◌}
 use Rattle.line_protocol.specs.Parts.{front, rest}
 
 -- the text begins with a byte that the test picks

@@ -1,8 +1,11 @@
-ghost use Rattle.std.specs.Prelude.{◌≡◌, ◌↔◌, ℕ, ◌≤◌, length, Err, IfOk, IsTrue};
+ghost use Rattle.std.specs.Prelude.{◌≡◌, ◌↔◌, ◌⊎◌, ℕ, ◌≤◌, List, length, Ok, Err, IfOk, IsTrue};
+ghost use Rattle.tsdb_types.specs.declared.point.Point.{Point};
+ghost use Rattle.point_model.specs.Acceptance.{IsWritable};
 ghost use Rattle.std.specs.Str.{IsUtf8};
 ghost use Rattle.line_protocol.specs.declared.fault.LineCode.{LineCode};
 ghost use Rattle.line_protocol.specs.Batches.{Lines, IsFault, TextIs, LinesGive};
 ghost use Rattle.line_protocol.specs.Batches as spec;
+ghost use Rattle.line_protocol.specs.Once.{OneBatch, OneFault, NeverBoth, Readable};
 
 use crate::cut::{cut_line, trimmed};
 use crate::fault::{LineCode, LineFault, Refusal};
@@ -21,6 +24,11 @@ pub fn read_batch(alloc: Global, bytes: &[u8], moment: Time) -> Result<Batch, Li
     requires { IsUtf8 bytes.now }
     ensures ok { IfOk result (Lines bytes.now moment) }
     ensures refused { (code : LineCode) (line : ℕ) → result ≡ Err (LineFault.Line code line) → IsFault bytes.now moment (record { code = code; line = line }) }
+    ensures writable { IfOk result IsWritable }
+    //
+    // Whatever batch or fault the text has is the answer, but for want of memory.
+    ensures found_only { (points : List Point) → Lines bytes.now moment points → (result ≡ Ok points) ⊎ (result ≡ Err LineFault.Memory) }
+    ensures refused_only { (code : LineCode) (line : ℕ) → IsFault bytes.now moment (record { code = code; line = line }) → (result ≡ Err (LineFault.Line code line)) ⊎ (result ≡ Err LineFault.Memory) }
 {
     if is_too_long(bytes) {
         return Err(LineFault::Line {
@@ -39,6 +47,14 @@ pub fn read_batch(alloc: Global, bytes: &[u8], moment: Time) -> Result<Batch, Li
         },
     }
 }
+
+/// A text has one reading: it is one batch or has one fault, and never both.
+pub fn one_reading()
+    ensures batch { OneBatch }
+    ensures fault { OneFault }
+    ensures apart { NeverBoth }
+    ensures some { Readable }
+{}
 
 fn is_too_long(bytes: &[u8]) -> bool
     ensures { IsTrue result ↔ spec.IsTooLong bytes.now }
@@ -68,7 +84,8 @@ fn is_open(bytes: &[u8]) -> bool
 
 // The points of all lines, or the first fault.
 fn read_lines(alloc: Global, bytes: &[u8], moment: Time) -> Result<Vec<Point>, LineFault>
-    requires { length bytes.now ≤ 16777216 }
+    requires few { length bytes.now ≤ 16777216 }
+    requires utf8 { IsUtf8 bytes.now }
     ensures { LinesGive (λ points. points.items) result (TextIs bytes.now moment) }
 {
     let mut kinds = Kinds::new(alloc);

@@ -2,6 +2,7 @@ ghost use Rattle.std.specs.Prelude.{◌≡◌, false, OnOk, IfErr};
 ghost use Rattle.line_protocol.specs.Fields.{Fields, field_of, fields_of, first_before, prefixed};
 ghost use Rattle.line_protocol.specs.Parts.{parts};
 ghost use Rattle.line_protocol.specs.Readings.{Gives, Refuses};
+ghost use Rattle.line_protocol.specs.Texts.{IsOneLine};
 
 use crate::cut::cut;
 use crate::fault::{LineCode, Refusal};
@@ -19,6 +20,7 @@ pub struct Field {
 
 // The fields in order, or the first fault of one.
 pub fn read_fields(alloc: Global, text: &[u8]) -> Result<Vec<Field>, Refusal>
+    requires { IsOneLine text.now }
     ensures { Gives (λ fields. fields.items) result (fields_of (parts 44 false text.now)) }
 {
     let mut fields = Vec::new(alloc);
@@ -38,6 +40,7 @@ pub fn read_fields(alloc: Global, text: &[u8]) -> Result<Vec<Field>, Refusal>
 
 // Reads a part to a field behind the others.
 fn push_field(alloc: Global, fields: &mut Vec<Field>, part: &[u8]) -> Result<(), Refusal>
+    requires { IsOneLine part.now }
     ensures ok { OnOk result ((more : Fields) → prefixed fields.old.items (first_before (field_of part.now) more) ≡ prefixed fields.new.items more) }
     ensures refused { IfErr result (λ refusal. Refuses refusal (field_of part.now)) }
 {
@@ -51,6 +54,7 @@ fn push_field(alloc: Global, fields: &mut Vec<Field>, part: &[u8]) -> Result<(),
 }
 
 fn read_field(alloc: Global, part: &[u8]) -> Result<Field, Refusal>
+    requires { IsOneLine part.now }
     ensures { Gives (λ field. field) result (field_of part.now) }
 {
     let (key, value) = key_and_value(part);

@@ -1,11 +1,12 @@
 ghost use Rattle.std.specs.Prelude.{◌≡◌, ◌↔◌, map, IfOk, IfErr, IsTrue, if◌then◌else◌};
 ghost use Rattle.std.specs.List.{list_all};
 ghost use Rattle.std.specs.Str.{bytes_eq};
-ghost use Rattle.tsdb_types.specs.Series.{KeysDiffer};
+ghost use Rattle.tsdb_types.specs.Series.{tag_ends_at, KeysDiffer};
 ghost use Rattle.line_protocol.specs.Heads.{IsHead, head_code, tag_of, tags_of, time_word, has_time_tag};
 ghost use Rattle.line_protocol.specs.Names as names;
 ghost use Rattle.line_protocol.specs.Parts.{parts_behind};
 ghost use Rattle.line_protocol.specs.Readings.{IsRefusal};
+ghost use Rattle.line_protocol.specs.Texts.{IsClosed, SpellsName, HoldsTags, IsSoundHead};
 
 use crate::cut::cut;
 use crate::fault::{LineCode, Refusal};
@@ -51,6 +52,8 @@ fn are_tags(text: &[u8]) -> bool
 
 // The measurement and the series of a head that has no fault but for equal keys.
 pub fn read_head(alloc: Global, head: &[u8]) -> Result<Head, Refusal>
+    requires sound { IsSoundHead head.now }
+    requires closed { IsClosed head.now }
     ensures ok { IfOk result (IsHead head.now) }
     ensures refused { IfErr result (λ refusal. IsRefusal refusal (λ code. (code ≡ LineCode.DuplicateTag) × ¬ (KeysDiffer (tags_of head.now)))) }
 {
@@ -73,6 +76,7 @@ pub fn read_head(alloc: Global, head: &[u8]) -> Result<Head, Refusal>
 // Whether no two tags of a head have one key. It may be the end of a line, where a value may end with a backslash, so the
 // keys alone are read.
 pub fn keys_differ(alloc: Global, head: &[u8]) -> Result<bool, AllocError>
+    requires { IsSoundHead head.now }
     ensures { IfOk result (λ differ. IsTrue differ ↔ KeysDiffer (tags_of head.now)) }
 {
     let (_, text) = cut(head, b',');
@@ -87,6 +91,7 @@ pub fn keys_differ(alloc: Global, head: &[u8]) -> Result<bool, AllocError>
 
 // The tags behind the commas, or their keys alone.
 fn read_tags(alloc: Global, text: &[u8], whole: bool) -> Result<Vec<Tag>, AllocError>
+    requires { HoldsTags whole text.now }
     ensures { IfOk result (λ tags. tags.items ≡ map (tag_of whole) (parts_behind 44 text.now)) }
 {
     let mut tags = Vec::new(alloc);
@@ -100,6 +105,8 @@ fn read_tags(alloc: Global, text: &[u8], whole: bool) -> Result<Vec<Tag>, AllocE
 }
 
 fn read_tag(alloc: Global, part: &[u8], whole: bool) -> Result<Tag, AllocError>
+    requires key { SpellsName tag_ends_at (names.key_part part.now) }
+    requires value { SpellsName tag_ends_at (if whole then names.value_part part.now else names.key_part part.now) }
     ensures { IfOk result (λ tag. tag ≡ tag_of whole part.now) }
 {
     let (key, value) = key_and_value(part);

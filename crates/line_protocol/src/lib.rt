@@ -14,5 +14,5 @@ mod number;
 mod tests;
 mod value;
 
-pub use batch::read_batch;
+pub use batch::{one_reading, read_batch};
 pub use fault::{LineCode, LineFault};

@@ -7,6 +7,7 @@ ghost use Rattle.line_protocol.specs.Numbers.{is_moment, signed_of};
 ghost use Rattle.line_protocol.specs.Lines.{time_of, has_time_field, points_of, rest_of, LineIs, AnyLineIs};
 ghost use Rattle.line_protocol.specs.Lines as spec;
 ghost use Rattle.line_protocol.specs.Readings.{IsRefusal, Refuses, Gives, unless};
+ghost use Rattle.line_protocol.specs.Texts.{IsOneLine, IsSoundHead};
 
 use crate::cut::{cut, without_spaces};
 use crate::fault::{LineCode, Refusal};
@@ -25,6 +26,7 @@ pub fn read_any_line(
     kinds: &mut Kinds,
     points: &mut Vec<Point>,
 ) -> Result<(), Refusal>
+    requires { IsOneLine line.now }
     ensures ok { OnOk result ((added : List Point) × (points.new.items ≡ points.old.items ++ added) × AnyLineIs (seen_of kinds.old) moment line.now (Ok (record { points = added; seen = seen_of kinds.new }))) }
     ensures refused { IfErr result (λ refusal. IsRefusal refusal (λ code. AnyLineIs (seen_of kinds.old) moment line.now (Err code))) }
 {
@@ -50,6 +52,7 @@ fn read_line(
     kinds: &mut Kinds,
     points: &mut Vec<Point>,
 ) -> Result<(), Refusal>
+    requires { IsOneLine line.now }
     ensures ok { OnOk result ((added : List Point) × (points.new.items ≡ points.old.items ++ added) × LineIs (seen_of kinds.old) moment line.now (Ok (record { points = added; seen = seen_of kinds.new }))) }
     ensures refused { IfErr result (λ refusal. IsRefusal refusal (λ code. LineIs (seen_of kinds.old) moment line.now (Err code))) }
 {
@@ -70,6 +73,7 @@ fn read_line(
 
 // Why a line without a field is refused.
 fn without_field(alloc: Global, head: &[u8]) -> Refusal
+    requires { IsSoundHead head.now }
     ensures { IsRefusal result (λ code. ((code ≡ LineCode.DuplicateTag) × ¬ (KeysDiffer (tags_of head.now))) ⊎ ((code ≡ LineCode.NoField) × KeysDiffer (tags_of head.now))) }
 {
     match keys_differ(alloc, head) {
@@ -93,6 +97,7 @@ fn read_behind(
     kinds: &mut Kinds,
     points: &mut Vec<Point>,
 ) -> Result<(), Refusal>
+    requires { IsOneLine fields.now }
     ensures ok { OnOk result ((added : List Point) × (points.new.items ≡ points.old.items ++ added) × (rest_of (seen_of kinds.old) moment head.measurement head.reserved head.series fields.now time.now ≡ Ok (record { points = added; seen = seen_of kinds.new }))) }
     ensures refused { IfErr result (λ refusal. Refuses refusal (rest_of (seen_of kinds.old) moment head.measurement head.reserved head.series fields.now time.now)) }
 {
@@ -115,6 +120,7 @@ fn read_rest(
     moment: Time,
     kinds: &mut Kinds,
 ) -> Result<(Vec<Field>, Time), Refusal>
+    requires { IsOneLine fields.now }
     ensures { Gives (λ found. record { points = points_of found.1 head.now.series found.0.items; seen = seen_of kinds.new }) result (rest_of (seen_of kinds.old) moment head.now.measurement head.now.reserved head.now.series fields.now time.now) }
 {
     let fields = read_fields(alloc, fields)?;

@@ -1,7 +1,10 @@
 ghost use Rattle.std.specs.Prelude.{◌≡◌, ◌++◌, ◌∷◌, IfOk, OnOk};
+ghost use Rattle.std.specs.Str.{IsUtf8};
+ghost use Rattle.tsdb_types.specs.Names.{IsName};
 ghost use Rattle.tsdb_types.specs.Series.{is_one_of};
 ghost use Rattle.line_protocol.specs.Names.{key_part, value_part, unescaped};
 ghost use Rattle.line_protocol.specs.Names as spec;
+ghost use Rattle.line_protocol.specs.Texts.{SpellsName};
 
 use crate::cut::cut;
 use std::alloc::{AllocError, AllocFailed, Global};
@@ -15,6 +18,7 @@ pub const TAG_ENDS: &[u8] = b",= ";
 
 // The name that a part of a line spells: without each backslash right before one of these bytes.
 pub fn name_of(alloc: Global, part: &[u8], ends: &[u8]) -> Result<Name, AllocError>
+    requires { SpellsName (is_one_of ends.now) part.now }
     ensures { IfOk result (λ name. name ≡ unescaped (is_one_of ends.now) part.now) }
 {
     if !part.contains(&b'\\') {
@@ -56,17 +60,18 @@ fn begins_with(text: &[u8], ends: &[u8]) -> bool
     }
 }
 
-// The parts of a line are text and spell names, so that memory alone can be wanting.
 fn name_of_bytes(alloc: Global, bytes: &[u8]) -> Result<Name, AllocError>
+    requires utf8 { IsUtf8 bytes.now }
+    requires name { IsName bytes.now }
     ensures { IfOk result (λ name. name ≡ bytes.now) }
 {
     match str::from_utf8(bytes) {
         Ok(text) => match Name::new(alloc, text) {
             Ok(name) => Ok(name),
-            Err(NameFault::BadName) => Err(AllocError),
+            Err(NameFault::BadName) => unreachable!(),
             Err(NameFault::Memory) => Err(AllocError),
         },
-        Err(_) => Err(AllocError),
+        Err(_) => unreachable!(),
     }
 }
 

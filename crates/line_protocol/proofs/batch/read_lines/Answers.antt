@@ -1,14 +1,16 @@
-use Rattle.std.proofs.Common.{◌≡◌, ℕ, ◌+◌, List, [], ◌∷◌, ◌++◌, length, Ok, Err, sym, ap, subst, ◌∙◌, arith}
+use Rattle.std.proofs.Common.{◌≡◌, ℕ, List, [], ◌∷◌, length, Ok, Err, sym, ap, subst, ◌∙◌, arith}
 use Rattle.std.proofs.lemmas.List.{nil_from_length}
 use Rattle.tsdb_types.specs.declared.point.Point.{Point}
 use Rattle.line_protocol.specs.declared.fault.LineFault.{LineFault}
 use Rattle.line_protocol.specs.Batches.{Points, FaultGives, lines_of, points_before, LinesAre, TextIs}
 use Rattle.line_protocol.specs.Kinds.{Seen, seen_of, nothing_seen}
 use Rattle.line_protocol.specs.Lines.{AnyLineIs}
-use Rattle.line_protocol.specs.Parts.{lines_behind, trimmed}
+use Rattle.line_protocol.specs.Parts.{line_front, lines_behind, trimmed}
+use Rattle.line_protocol.specs.Texts.{IsOneLine}
 use Rattle.line_protocol.proofs.BatchLemmas.{points_before-nil, points_before-both, points_before-end, lines-cut, lines-read, last-read, line-refused, same, fault-lines}
 use Rattle.line_protocol.proofs.KindLemmas.{seen-same}
 use Rattle.line_protocol.proofs.PartLemmas.{line_rest-le}
+use Rattle.line_protocol.proofs.TextLemmas.{line-read, next-lines}
 use Rattle.line_protocol.proofs.batch.read_lines.Goals as goal
 
 pub lines-init : goal.lines-init
@@ -21,7 +23,13 @@ lines-init c =
           subst (λ (r : Points). TextIs bytes moment r) (sym (ap (λ (ps : List Point). points_before ps others) c.new-points.ensures.items ∙ points_before-nil others))
           (subst (λ (s : Seen). LinesAre moment (lines_of bytes) 1 s others) nothing are);
       few = omega arith;
+      utf8 = c.requires.utf8;
     }
+
+pub read_any_line-requires : goal.read_any_line-requires
+read_any_line-requires c =
+    let first : c.trimmed.result.now ≡ trimmed (line_front c.lines.left.now) = c.trimmed.ensures ∙ ap (λ (t : List ℕ). trimmed t) c.cut_line.ensures.front in
+    subst (λ (t : List ℕ). IsOneLine t) (sym first) (line-read c.lines.left.now c.lines.invariant.utf8)
 
 pub lines-preserved : goal.lines-preserved
 lines-preserved c =
@@ -40,13 +48,14 @@ lines-preserved c =
           subst (λ (r : Points). TextIs c.args.bytes.now moment r) (points_before-both at.points.items added.0 others ∙ ap (λ (ps : List Point). points_before ps others) (sym added.1))
           (at.invariant.whole (points_before added.0 others) (lines-read moment at.left.now line behind at.number (seen_of at.kinds) after added.0 others next is are));
       few = omega (arith, at.invariant.few, ap (λ (t : List ℕ). length t) c.cut_line.ensures.rest, line_rest-le at.left.now, c.in-Some.ensures.cases.1);
+      utf8 = next-lines at.left.now _ behind at.invariant.utf8 (sym c.cut_line.ensures.rest ∙ c.in-Some.ensures.cases.0);
     }
 
 pub lines-smaller : goal.lines-smaller
 lines-smaller c = omega (arith, ap (λ (t : List ℕ). length t) c.cut_line.ensures.rest, line_rest-le c.lines.left.now, c.in-Some.ensures.cases.1)
 
 pub overflow_add-number : goal.overflow_add-number
-overflow_add-number c = omega (arith, c.requires, c.lines.invariant.few, ap (λ (t : List ℕ). length t) c.cut_line.ensures.rest, line_rest-le c.lines.left.now, c.in-Some.ensures.cases.1)
+overflow_add-number c = omega (arith, c.requires.few, c.lines.invariant.few, ap (λ (t : List ℕ). length t) c.cut_line.ensures.rest, line_rest-le c.lines.left.now, c.in-Some.ensures.cases.1)
 
 pub returns-in-Err : goal.returns-in-Err
 returns-in-Err c =

@@ -1,4 +1,4 @@
-use Rattle.std.proofs.Common.{◌≡◌, false, List, ℕ, sym, ap, ◌∙◌}
+use Rattle.std.proofs.Common.{false, List, ℕ, sym, ap, ◌∙◌}
 use Rattle.line_protocol.specs.Parts.{slashed}
 use Rattle.line_protocol.proofs.PartLemmas.{slashed-last}
 use Rattle.line_protocol.proofs.cut.ends_with_slash.Goals as goal

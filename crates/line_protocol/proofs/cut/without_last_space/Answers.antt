@@ -1,6 +1,6 @@
-use Rattle.std.proofs.Common.{◌≡◌, ◌≢◌, ℕ, ◌+◌, ◌<◌, true, false, List, [], ◌∷◌, ◌++◌, length, eqb, sym, ap, subst, ◌∙◌, arith}
+use Rattle.std.proofs.Common.{◌≡◌, ℕ, false, List, [], ◌∷◌, ◌++◌, eqb, sym, ap, ◌∙◌, arith}
 use Rattle.std.proofs.lemmas.Bool.Decides.{nat_tests}
-use Rattle.line_protocol.specs.Parts.{unspaced_end, slashed}
+use Rattle.line_protocol.specs.Parts.{unspaced_end}
 use Rattle.line_protocol.proofs.PartLemmas.{end-space, end-kept, end-escaped}
 use Rattle.line_protocol.proofs.cut.without_last_space.Goals as goal
 

@@ -1,6 +1,6 @@
-use Rattle.std.proofs.Common.{◌≡◌, List, [], ◌∷◌, ◌++◌, sym, ap, ◌∙◌}
+use Rattle.std.proofs.Common.{List, sym, ap, ◌∙◌}
 use Rattle.line_protocol.specs.declared.field.Field.{Field}
-use Rattle.line_protocol.specs.Fields.{Fields, first_before, prefixed}
+use Rattle.line_protocol.specs.Fields.{first_before, prefixed}
 use Rattle.line_protocol.proofs.ReadingLemmas.{prefixed-push}
 use Rattle.line_protocol.proofs.field.push_field.Goals as goal
 

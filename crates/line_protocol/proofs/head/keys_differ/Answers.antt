@@ -1,9 +1,18 @@
-use Rattle.std.proofs.Common.{◌≡◌, false, List, ℕ, map, sym, ap, refl, ◌∙◌}
+use Rattle.std.proofs.Common.{false, List, ℕ, map, sym, ap, subst, refl, ◌∙◌}
 use Rattle.std.proofs.lemmas.Bool.{false≢true}
 use Rattle.line_protocol.specs.Heads.{tag_of}
 use Rattle.line_protocol.specs.Parts.{parts_behind}
 use Rattle.line_protocol.proofs.HeadLemmas.{differ-stable, head-keys, keys-head}
+use Rattle.line_protocol.specs.Texts.{HoldsTags}
+use Rattle.line_protocol.proofs.TextLemmas.{head-tags, any-name}
 use Rattle.line_protocol.proofs.head.keys_differ.Goals as goal
+
+pub read_tags-requires : goal.read_tags-requires
+read_tags-requires c =
+    subst (λ (t : List ℕ). HoldsTags false t) (sym c.cut.ensures.rest) (head-tags false c.args.head.now c.requires (λ e. absurd (false≢true e)))
+
+pub name_of-requires : goal.name_of-requires
+name_of-requires c = any-name
 
 pub returns-in-Ok : goal.returns-in-Ok
 returns-in-Ok c =

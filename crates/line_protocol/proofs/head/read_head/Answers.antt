@@ -5,7 +5,17 @@ use Rattle.line_protocol.specs.Heads.{tag_of, tags_of, measurement_of, has_time_
 use Rattle.line_protocol.specs.Names.{unescaped}
 use Rattle.line_protocol.specs.Parts.{parts_behind}
 use Rattle.line_protocol.proofs.HeadLemmas.{differ-stable}
+use Rattle.line_protocol.specs.Texts.{SpellsName, HoldsTags}
+use Rattle.line_protocol.proofs.TextLemmas.{head-measurement, head-tags}
 use Rattle.line_protocol.proofs.head.read_head.Goals as goal
+
+pub name_of-requires : goal.name_of-requires
+name_of-requires c =
+    subst (λ (t : List ℕ). SpellsName measurement_ends_at t) (sym c.cut.ensures.front) (head-measurement c.args.head.now c.requires.sound c.requires.closed)
+
+pub read_tags-requires : goal.read_tags-requires
+read_tags-requires c =
+    subst (λ (t : List ℕ). HoldsTags true t) (sym c.cut.ensures.rest) (head-tags true c.args.head.now c.requires.sound (λ _. c.requires.closed))
 
 pub returns-in-Ok-clause-ok : goal.returns-in-Ok-clause-ok
 returns-in-Ok-clause-ok c =

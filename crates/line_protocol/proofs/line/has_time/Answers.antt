@@ -1,4 +1,4 @@
-use Rattle.std.proofs.Common.{◌≡◌, Bool, true, false, ◌||◌, ◌+◌, List, drop, sym, ap, ◌∙◌, arith}
+use Rattle.std.proofs.Common.{Bool, ◌||◌, ◌+◌, List, drop, sym, ap, ◌∙◌, arith}
 use Rattle.std.proofs.lemmas.List.{drop_all}
 use Rattle.std.specs.Str.{bytes_eq}
 use Rattle.line_protocol.specs.declared.field.Field.{Field}

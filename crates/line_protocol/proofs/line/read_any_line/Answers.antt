@@ -1,5 +1,4 @@
 use Rattle.std.proofs.Common.{[], sym, ◌∙◌, append-nil}
-use Rattle.std.proofs.lemmas.Result.{IfOk-weaker, IfErr-weaker}
 use Rattle.line_protocol.specs.Kinds.{seen_of}
 use Rattle.line_protocol.proofs.LineLemmas.{line-skipped, any-ok, any-refused}
 use Rattle.line_protocol.proofs.line.read_any_line.Goals as goal

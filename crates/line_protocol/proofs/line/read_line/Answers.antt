@@ -1,10 +1,32 @@
-use Rattle.std.proofs.Common.{◌≡◌, ℕ, false, List, [], length, sym, ap, ◌∙◌}
+use Rattle.std.proofs.Common.{◌≡◌, ℕ, false, List, sym, ap, subst, ◌∙◌}
 use Rattle.std.proofs.lemmas.Result.{err_from_is_err_and}
 use Rattle.line_protocol.specs.Heads.{head_code}
 use Rattle.line_protocol.specs.Kinds.{seen_of}
 use Rattle.line_protocol.specs.Parts.{front, rest, unspaced}
 use Rattle.line_protocol.proofs.LineLemmas.{head-faulty, line-unfilled, line-twice, filled-ok, filled-refused, filled-some, filled-none}
+use Rattle.line_protocol.specs.Lines.{fields_text}
+use Rattle.line_protocol.specs.Texts.{IsClosed}
+use Rattle.line_protocol.proofs.ClosedLemmas.{head-closed}
+use Rattle.line_protocol.proofs.TextLemmas.{line-head, line-fields}
 use Rattle.line_protocol.proofs.line.read_line.Goals as goal
+
+pub without_field-requires : goal.without_field-requires
+without_field-requires c = line-head c.args.line.now c.cut.result.0.now c.requires c.cut.ensures.front c.in-None.ensures
+
+pub read_head-requires-clause-sound : goal.read_head-requires-clause-sound
+read_head-requires-clause-sound c = line-head c.args.line.now c.cut.result.0.now c.requires c.cut.ensures.front c.in-None.ensures
+
+pub read_head-requires-clause-closed : goal.read_head-requires-clause-closed
+read_head-requires-clause-closed c =
+    let behind = c.without_spaces.ensures ∙ ap unspaced c.cut.ensures.rest in
+    let fields : c.cut-in-None.result.0.now ≡ fields_text c.args.line.now = c.cut-in-None.ensures.front ∙ ap (λ (t : List ℕ). front 32 false t) behind in
+    let some = filled-some c.cut-in-None.result.0.now (sym c.is_empty.ensures ∙ c.if-is_empty.false) in
+    subst (λ (t : List ℕ). IsClosed t) (sym c.cut.ensures.front) (head-closed c.args.line.now (λ none. some (fields ∙ none)))
+
+pub read_behind-requires : goal.read_behind-requires
+read_behind-requires c =
+    let behind = c.without_spaces.ensures ∙ ap unspaced c.cut.ensures.rest in
+    line-fields c.args.line.now c.cut-in-None.result.0.now c.requires (c.cut-in-None.ensures.front ∙ ap (λ (t : List ℕ). front 32 false t) behind)
 
 pub returns-in-Some-clause-refused : goal.returns-in-Some-clause-refused
 returns-in-Some-clause-refused c =

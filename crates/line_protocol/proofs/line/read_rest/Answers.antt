@@ -5,7 +5,7 @@ use Rattle.line_protocol.specs.declared.fault.LineCode.TheVariants.{ReservedName
 use Rattle.line_protocol.specs.declared.field.Field.{Field}
 use Rattle.line_protocol.specs.Kinds.{Seen, seen_of, note_all}
 use Rattle.line_protocol.specs.Lines.{has_time_field, keys_step}
-use Rattle.line_protocol.specs.Readings.{Refuses, unless}
+use Rattle.line_protocol.specs.Readings.{unless}
 use Rattle.line_protocol.proofs.LineLemmas.{rest-ok, rest-kinds}
 use Rattle.line_protocol.proofs.line.read_rest.Goals as goal
 

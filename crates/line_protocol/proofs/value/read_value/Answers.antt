@@ -1,5 +1,4 @@
-use Rattle.std.proofs.Common.{◌≡◌, ◌↔◌, ℕ, Bool, true, false, cond, ⊎_elim, Option, Some, None, Result, Ok, Err, List, refl, sym, ap, ◌∙◌}
-use Rattle.std.proofs.lemmas.Bool.{false≢true}
+use Rattle.std.proofs.Common.{◌≡◌, ◌↔◌, ℕ, Bool, true, false, cond, ⊎_elim, Option, Some, None, Result, Ok, List, refl, sym, ap, ◌∙◌}
 use Rattle.tsdb_types.specs.declared.value.Value.{Value}
 use Rattle.tsdb_types.specs.declared.value.Value.TheVariants.{Bool as Truth}
 use Rattle.line_protocol.specs.declared.fault.LineCode.{LineCode}

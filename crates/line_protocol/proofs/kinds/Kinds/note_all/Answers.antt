@@ -1,11 +1,11 @@
-use Rattle.std.proofs.Common.{◌≡◌, Result, ℕ, ◌+◌, List, drop, sym, ap, ◌∙◌, arith}
+use Rattle.std.proofs.Common.{Result, ◌+◌, List, drop, sym, ap, ◌∙◌, arith}
 use Rattle.std.proofs.lemmas.List.{drop_all}
 use Rattle.tsdb_types.specs.Values.{kind_of}
 use Rattle.tsdb_types.specs.declared.value.Kind.{Kind}
 use Rattle.line_protocol.specs.declared.fault.LineCode.{LineCode}
 use Rattle.line_protocol.specs.declared.field.Field.{Field}
 use Rattle.line_protocol.specs.Kinds.{Seen, seen_of, place_of, note, note_all}
-use Rattle.line_protocol.specs.Readings.{◌>>=◌, Refuses}
+use Rattle.line_protocol.specs.Readings.{◌>>=◌}
 use Rattle.line_protocol.proofs.LineLemmas.{note_all-at}
 use Rattle.line_protocol.proofs.ReadingLemmas.{refuses-along, refuses-bind}
 use Rattle.line_protocol.proofs.kinds.Kinds.note_all.Goals as goal
