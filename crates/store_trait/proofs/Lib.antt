@@ -1,0 +1,17 @@
+mod AcceptLemmas
+mod CommitLemmas
+mod ConflictLemmas
+mod FieldLemmas
+mod HeadLemmas
+mod InLemmas
+mod KeyListLemmas
+mod KindLemmas
+mod ListLemmas
+mod MapLemmas
+mod PointLemmas
+mod ResultLemmas
+mod RowLemmas
+mod SampleLemmas
+mod SettingLemmas
+mod TagLemmas
+mod ViewLemmas

@@ -1,0 +1,66 @@
+-- When is a batch accepted by a store, and when refused?
+use Rattle.std.specs.Prelude.{◌≡◌, ◌↔◌, ℕ, ◌+◌, ◌<◌, ◌≤◌, IsTrue, List, [], ◌∷◌, ◌++◌, length, Any, Contains, Some, ⊤, IsSomeAnd}
+use Rattle.std.specs.List.{IsDistinct}
+use Rattle.std.specs.Str.{bytes_eq}
+use Rattle.shard_disk.specs.Health.{Health, Failed}
+use Rattle.tsdb_types.specs.declared.point.Point.{Point}
+use Rattle.point_model.specs.Histories.{Entry, state_after}
+use Rattle.point_model.specs.Histories.Entry.{Write}
+use Rattle.point_model.specs.Acceptance.{conflict, IsAccepted}
+use Rattle.store_trait.specs.declared.fault.WriteFault.{WriteFault}
+use Rattle.store_trait.specs.declared.fault.WriteFault.TheVariants as fault
+use Rattle.store_trait.specs.Told.{Told, Limits, IsLater, state_now, last_number, points_written}
+
+-- The history ends with the batch as one entry of the client, and its number is the one that is given. The points before
+-- the entry accept it.
+pub record Accepts (points : List Point) (number : ℕ) (old new : Told) : Type 0 where
+  pub before : List Entry
+  pub later : IsLater old.history before
+  pub entry : new.history ≡ before ++ Write old.client points ∷ []
+  pub accepted : IsTrue old.tells → IsAccepted (state_after old.start before).points points
+  pub given : number ≡ (state_now new).number
+  pub limit : number ≤ last_number
+  pub own : new.own ≡ old.own ++ number ∷ []
+  pub out : new.out ≡ old.out
+
+abbrev pub HasSeries : List Point → List ℕ → Type 0
+HasSeries points series = Any (λ point. point.cell.series ≡ series) points
+
+abbrev pub WritesSeries : List ℕ → Entry → Type 0
+WritesSeries series (Write client points) = HasSeries points series
+
+-- The series of the batch that neither the start nor the history has, each once.
+pub record AreNew (points : List Point) (limits : Limits) (history : List Entry) (series : List (List ℕ)) : Type 0 where
+  pub distinct : IsDistinct bytes_eq series
+  pub exact : (text : List ℕ) → Contains series text
+      ↔ (HasSeries points text × (¬ (Contains limits.series text)) × (¬ (Any (WritesSeries text) history)))
+
+-- neither a conflict nor the last number refuses the batch
+pub record IsOpen (points : List Point) (told : Told) : Type 0 where
+  pub accepted : IsTrue told.tells → IsAccepted (state_now told).points points
+  pub number : (state_now told).number < last_number
+
+-- So many series are held that the batch's new ones pass the limit.
+pub record PassesSeries (points : List Point) (held : ℕ) (told : Told) (limits : Limits) : Type 0 where
+  pub new : List (List ℕ)
+  pub are_new : AreNew points limits told.history new
+  pub are_held : held ≤ told.series
+  pub passes : limits.most_series < held + length new
+
+-- So many points are cached that the batch's pass the limit.
+pub record PassesCache (points : List Point) (held : ℕ) (told : Told) (limits : Limits) : Type 0 where
+  pub are_held : held ≤ limits.cached + points_written told.history
+  pub passes : limits.most_cached < held + length points
+
+-- Why a batch was refused, by what the store tells afterwards and by its health before and after. A refusal that is
+-- listed earlier comes first.
+abbrev pub WriteHasCause : List Point → Told → Health → Health → WriteFault → Type 0
+WriteHasCause points told old new (fault.TypeConflict field held number) =
+    (IsTrue told.tells → conflict (state_now told).points points ≡ Some (record { field = field; held = held }))
+    × (number ≡ (state_now told).number)
+WriteHasCause points told old new fault.HistoryFull =
+    (IsTrue told.tells → IsAccepted (state_now told).points points) × ((state_now told).number ≡ last_number)
+WriteHasCause points told old new (fault.SeriesFull held) = IsOpen points told × IsSomeAnd told.limits (PassesSeries points held told)
+WriteHasCause points told old new (fault.CacheFull held) = IsOpen points told × IsSomeAnd told.limits (PassesCache points held told)
+WriteHasCause points told old new fault.Memory = ⊤
+WriteHasCause points told old new fault.Fault = Failed old new

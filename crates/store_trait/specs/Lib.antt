@@ -1,0 +1,7 @@
+pub mod Calls
+pub mod Gathered
+pub mod Lists
+pub mod Plain
+pub mod Slots
+pub mod Tags
+pub mod Told

@@ -1,0 +1,65 @@
+-- What does a store tell of itself, and what may a call change of it?
+use Rattle.std.specs.Prelude.{◌≡◌, ℕ, ◌≤◌, Bool, List, ◌++◌, length, sum_by, Option}
+use Rattle.point_model.specs.Histories.{Entry, State, state_after}
+use Rattle.point_model.specs.Histories.Entry.{Write}
+
+-- The limits of a store, and what it held of what they limit at its start: the points in the cache and in a snapshot of
+-- it, and the texts of the series.
+pub record Limits : Type 0 where
+  pub cached : ℕ
+  pub most_cached : ℕ
+  pub series : List (List ℕ)
+  pub most_series : ℕ
+
+-- What a store tells.
+pub record Told : Type 0 where
+  -- the client that its writes are of
+  pub client : ℕ
+  -- the points and the number that it began with
+  pub start : State
+  -- whether these are the points that it has: it has no disk, or one that tells and was sound
+  pub tells : Bool
+  -- none of a store without limits
+  pub limits : Option Limits
+  -- the entries since the start that it knows, its own and those of other clients
+  pub history : List Entry
+  -- the numbers of its own entries
+  pub own : List ℕ
+  -- how many series it holds, where it has limits
+  pub series : ℕ
+  -- the loans that are out: one for each view that was begun and not ended
+  pub out : List ℕ
+
+-- the points and the number behind all entries that it knows
+abbrev pub state_now : Told → State
+state_now told = state_after told.start told.history
+
+-- no entry has a greater number
+abbrev pub last_number : ℕ
+last_number = 9223372036854775807
+
+-- The later history begins with the earlier one.
+pub record IsLater (old new : List Entry) : Type 0 where
+  pub since : List Entry
+  pub begins : new ≡ old ++ since
+
+-- What every call keeps. Entries of other clients may come in between.
+pub record Keeps (old new : Told) : Type 0 where
+  pub client : new.client ≡ old.client
+  pub start : new.start ≡ old.start
+  pub tells : new.tells ≡ old.tells
+  pub limits : new.limits ≡ old.limits
+  pub history : IsLater old.history new.history
+  pub series : old.series ≤ new.series
+
+-- No entry was made and no view begun or ended.
+pub record IsAlike (old new : Told) : Type 0 where
+  pub own : new.own ≡ old.own
+  pub out : new.out ≡ old.out
+
+-- how many points the entries wrote
+abbrev pub points_in : Entry → ℕ
+points_in (Write client points) = length points
+
+abbrev pub points_written : List Entry → ℕ
+points_written history = sum_by points_in history

@@ -1,0 +1,21 @@
+//! Where the points of a session are kept: what every store promises, and a store in memory.
+#![tactic(auto)]
+
+mod fault;
+mod gather;
+mod heading;
+mod list_view;
+mod names;
+mod plain;
+mod room;
+mod samples;
+mod slots;
+mod store;
+mod tags;
+#[cfg(test)]
+mod tests;
+
+pub use fault::{ViewFault, WriteFault};
+pub use list_view::ListView;
+pub use plain::PlainStore;
+pub use store::Store;
