@@ -1,0 +1,10 @@
+pub mod IndexLemmas
+pub mod RowLemmas
+pub mod PickLemmas
+pub mod BlockLemmas
+pub mod CursorLemmas
+pub mod WrittenLemmas
+pub mod WritingLemmas
+pub mod ReadBack
+pub mod PlaceLemmas
+pub mod TriedLemmas
