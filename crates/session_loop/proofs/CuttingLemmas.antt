@@ -1,11 +1,13 @@
--- How the parts, the lines and the requests of some bytes grow.
-use Rattle.std.proofs.Common.{◌≡◌, ◌≢◌, ℕ, Bool, true, false, not, ◌==◌, List, [], ◌∷◌, ◌++◌, length, map, filter, refl, sym, ap, ◌∙◌, append_assoc, cond, inl, inr, arith}
+-- How the parts, the requests and the open BATCH of some bytes grow.
+use Rattle.std.proofs.Common.{◌≡◌, ◌≢◌, ℕ, Bool, true, false, not, ◌==◌, List, [], ◌∷◌, ◌++◌, length, fold, refl, sym, ap, ◌∙◌, subst, append_assoc, cond, inl, inr, Option, Some, None, if◌then◌else◌}
 use Rattle.std.specs.List.{slice_split, onto_first, list_all}
-use Rattle.std.specs.Str.Lines.{strip_carriage_return, lines_of_parts}
+use Rattle.std.specs.Str.Lines.{strip_carriage_return}
 use Rattle.std.proofs.lemmas.Bool.Decides.{eqb_tells}
-use Rattle.std.proofs.lemmas.List.{append-nil, map-append}
-use Rattle.std.proofs.lemmas.List.Elements.{filter-append}
-use Rattle.session_model.specs.Lines.{is_blank, parts, ended_lines, ended_requests, requests}
+use Rattle.std.proofs.lemmas.List.{append-nil}
+use Rattle.session_model.specs.Words.{batch_count}
+use Rattle.session_model.specs.Lines.{Request, Open, Cut, is_blank, parts, ended_parts, last_part, with_first, begin, next_line, with_line, nothing_cut, cut_of, closed, last_line, requests, ended_requests}
+use Rattle.session_model.specs.Lines.Request.{Line, Batch}
+use Rattle.session_model.specs.Explained.{complete_requests}
 use Rattle.session_model.specs.Readable.{Lacks}
 use Rattle.session_model.proofs.TextLemmas.{and_parts}
 
@@ -82,54 +84,6 @@ pub parts_next : (bytes : List ℕ) (lines : List (List ℕ)) (last : List ℕ)
 parts_next bytes lines last cut =
     split_next (λ b. b == 10) 10 refl bytes ∙ ap (λ (l : List (List ℕ)). l ++ [] ∷ []) cut
 
-pub ended_lines_are : (lines : List (List ℕ)) (last : List ℕ) → ended_lines (lines ++ last ∷ []) ≡ map strip_carriage_return lines
-ended_lines_are [] last = refl
-ended_lines_are (line ∷ []) last = refl
-ended_lines_are (line ∷ next ∷ lines) last = ap (λ (l : List (List ℕ)). strip_carriage_return line ∷ l) (ended_lines_are (next ∷ lines) last)
-
--- the requests that are ended, by the parts
-pub ended_are : (bytes : List ℕ) (lines : List (List ℕ)) (last : List ℕ) → parts bytes ≡ lines ++ last ∷ []
-    → ended_requests bytes ≡ filter (λ line. not (is_blank line)) (map strip_carriage_return lines)
-ended_are bytes lines last cut = ap (filter (λ line. not (is_blank line))) (ap ended_lines cut ∙ ended_lines_are lines last)
-
--- a byte that is no newline ends no request
-pub ended_same : (byte : ℕ) (bytes : List ℕ) (lines : List (List ℕ)) (last : List ℕ) → byte ≢ 10
-    → parts bytes ≡ lines ++ last ∷ [] → ended_requests (bytes ++ byte ∷ []) ≡ ended_requests bytes
-ended_same byte bytes lines last other cut =
-    ended_are (bytes ++ byte ∷ []) lines (last ++ byte ∷ []) (parts_same byte bytes lines last other cut)
-    ∙ sym (ended_are bytes lines last cut)
-
--- a newline ends the request of the last part, where that isn't blank
-pub ended_next : (bytes : List ℕ) (lines : List (List ℕ)) (last : List ℕ) → parts bytes ≡ lines ++ last ∷ []
-    → ended_requests (bytes ++ 10 ∷ []) ≡ ended_requests bytes ++ filter (λ line. not (is_blank line)) (strip_carriage_return last ∷ [])
-ended_next bytes lines last cut =
-    ended_are (bytes ++ 10 ∷ []) (lines ++ last ∷ []) [] (parts_next bytes lines last cut)
-    ∙ ap (filter (λ line. not (is_blank line))) (map-append strip_carriage_return lines (last ∷ []))
-    ∙ filter-append (λ line. not (is_blank line)) (map strip_carriage_return lines) (strip_carriage_return last ∷ [])
-    ∙ ap (λ (l : List (List ℕ)). l ++ filter (λ line. not (is_blank line)) (strip_carriage_return last ∷ [])) (sym (ended_are bytes lines last cut))
-
--- at the end of the input the last part is a line too, unless it is empty
-lines_are : (lines : List (List ℕ)) (last : List ℕ)
-    → lines_of_parts (lines ++ last ∷ []) ≡ map strip_carriage_return lines ++ cond (length last == 0) [] (last ∷ [])
-lines_are [] last = refl
-lines_are (line ∷ []) last = refl
-lines_are (line ∷ next ∷ lines) last = ap (λ (l : List (List ℕ)). strip_carriage_return line ∷ l) (lines_are (next ∷ lines) last)
-
-not_empty : (b : ℕ) (last : List ℕ) → (length (b ∷ last) == 0) ≡ false
-not_empty b last = elim (eqb_tells (length (b ∷ last)) 0) [ inl same ↦ absurd (let e = same.1 in omega arith) | inr differs ↦ differs.0 ]
-
-last_kept : (last : List ℕ) → filter (λ line. not (is_blank line)) (cond (length last == 0) [] (last ∷ [])) ≡ filter (λ line. not (is_blank line)) (last ∷ [])
-last_kept [] = refl
-last_kept (b ∷ last) = ap (λ (t : Bool). filter (λ line. not (is_blank line)) (cond t [] ((b ∷ last) ∷ []))) (not_empty b last)
-
-pub requests_are : (bytes : List ℕ) (lines : List (List ℕ)) (last : List ℕ) → parts bytes ≡ lines ++ last ∷ []
-    → requests bytes ≡ ended_requests bytes ++ filter (λ line. not (is_blank line)) (last ∷ [])
-requests_are bytes lines last cut =
-    ap (filter (λ line. not (is_blank line))) (ap lines_of_parts cut ∙ lines_are lines last)
-    ∙ filter-append (λ line. not (is_blank line)) (map strip_carriage_return lines) (cond (length last == 0) [] (last ∷ []))
-    ∙ ap (λ (l : List (List ℕ)). filter (λ line. not (is_blank line)) (map strip_carriage_return lines) ++ l) (last_kept last)
-    ∙ ap (λ (l : List (List ℕ)). l ++ filter (λ line. not (is_blank line)) (last ∷ [])) (sym (ended_are bytes lines last cut))
-
 -- a byte that isn't another one
 other_than : (b byte : ℕ) → not (b == byte) ≡ true → b ≢ byte
 other_than b byte differs same = elim (eqb_tells b byte) [ inl equal ↦ cc (ap not equal.0) | inr other ↦ other.1 same ]
@@ -145,22 +99,159 @@ parts_longer (b ∷ more) bytes lines last lacks cut =
     ∙ parts_longer more (bytes ++ b ∷ []) lines (last ++ b ∷ []) both.1 (parts_same b bytes lines last (other_than b 10 both.0) cut)
     ∙ ap (λ (l : List ℕ). lines ++ l ∷ []) (append_assoc last (b ∷ []) more)
 
--- and end no request
-pub ended_longer : (more bytes : List ℕ) (lines : List (List ℕ)) (last : List ℕ) → Lacks 10 more
-    → parts bytes ≡ lines ++ last ∷ [] → ended_requests (bytes ++ more) ≡ ended_requests bytes
-ended_longer more bytes lines last lacks cut =
-    ended_are (bytes ++ more) lines (last ++ more) (parts_longer more bytes lines last lacks cut) ∙ sym (ended_are bytes lines last cut)
-
 -- these and a newline behind them begin a part
 pub parts_line : (more bytes : List ℕ) (lines : List (List ℕ)) (last : List ℕ) → Lacks 10 more
     → parts bytes ≡ lines ++ last ∷ [] → parts (bytes ++ (more ++ 10 ∷ [])) ≡ (lines ++ (last ++ more) ∷ []) ++ [] ∷ []
 parts_line more bytes lines last lacks cut =
     ap parts (sym (append_assoc bytes more (10 ∷ []))) ∙ parts_next (bytes ++ more) lines (last ++ more) (parts_longer more bytes lines last lacks cut)
 
--- and end the request of the last part, where that isn't blank
-pub ended_line : (more bytes : List ℕ) (lines : List (List ℕ)) (last : List ℕ) → Lacks 10 more
-    → parts bytes ≡ lines ++ last ∷ []
-    → ended_requests (bytes ++ (more ++ 10 ∷ [])) ≡ ended_requests bytes ++ filter (λ line. not (is_blank line)) (strip_carriage_return (last ++ more) ∷ [])
-ended_line more bytes lines last lacks cut =
-    ap ended_requests (sym (append_assoc bytes more (10 ∷ []))) ∙ ended_next (bytes ++ more) lines (last ++ more) (parts_longer more bytes lines last lacks cut)
-    ∙ ap (λ (l : List (List ℕ)). l ++ filter (λ line. not (is_blank line)) (strip_carriage_return (last ++ more) ∷ [])) (ended_longer more bytes lines last lacks cut)
+-- The last part, and those before it.
+
+ended_parts_are : (lines : List (List ℕ)) (last : List ℕ) → ended_parts (lines ++ last ∷ []) ≡ lines
+ended_parts_are [] last = refl
+ended_parts_are (line ∷ []) last = refl
+ended_parts_are (line ∷ next ∷ lines) last = ap (λ (l : List (List ℕ)). line ∷ l) (ended_parts_are (next ∷ lines) last)
+
+last_part_is : (lines : List (List ℕ)) (last : List ℕ) → last_part (lines ++ last ∷ []) ≡ last
+last_part_is [] last = refl
+last_part_is (line ∷ []) last = refl
+last_part_is (line ∷ next ∷ lines) last = last_part_is (next ∷ lines) last
+
+pub last_is : (bytes : List ℕ) (lines : List (List ℕ)) (last : List ℕ) → parts bytes ≡ lines ++ last ∷ [] → last_part (parts bytes) ≡ last
+last_is bytes lines last cut = ap last_part cut ∙ last_part_is lines last
+
+-- bytes are ended lines and a last part
+pub record Parts (bytes : List ℕ) : Type 0 where
+  pub lines : List (List ℕ)
+  pub last : List ℕ
+  pub is : parts bytes ≡ lines ++ last ∷ []
+
+record LastOf (part : List ℕ) (more : List (List ℕ)) : Type 0 where
+  lines : List (List ℕ)
+  last : List ℕ
+  is : (part ∷ more) ≡ lines ++ last ∷ []
+
+last_of : (part : List ℕ) (more : List (List ℕ)) → LastOf part more
+last_of part [] = record { lines = []; last = part; is = refl }
+last_of part (next ∷ more) =
+    let rest = last_of next more in
+    record { lines = part ∷ rest.lines; last = rest.last; is = ap (λ (l : List (List ℕ)). part ∷ l) rest.is }
+
+pub some_cut : (bytes : List ℕ) → Parts bytes
+some_cut bytes =
+    let some = some_part (λ b. b == 10) bytes in
+    let last = last_of some.part some.more in
+    record { lines = last.lines; last = last.last; is = some.is ∙ last.is }
+
+-- What the lines that have ended are cut into.
+
+fold_more : (cut : Cut) (lines more : List (List ℕ)) → fold with_line cut (lines ++ more) ≡ fold with_line (fold with_line cut lines) more
+fold_more cut [] more = refl
+fold_more cut (line ∷ lines) more = fold_more (with_line cut line) lines more
+
+cut_is : (bytes : List ℕ) (lines : List (List ℕ)) (last : List ℕ) → parts bytes ≡ lines ++ last ∷ [] → cut_of bytes ≡ fold with_line nothing_cut lines
+cut_is bytes lines last cut = ap (λ (l : List (List ℕ)). fold with_line nothing_cut (ended_parts l)) cut ∙ ap (fold with_line nothing_cut) (ended_parts_are lines last)
+
+-- bytes without a newline end no line
+pub cut_longer : (more bytes : List ℕ) (lines : List (List ℕ)) (last : List ℕ) → Lacks 10 more → parts bytes ≡ lines ++ last ∷ [] → cut_of (bytes ++ more) ≡ cut_of bytes
+cut_longer more bytes lines last lacks cut =
+    cut_is (bytes ++ more) lines (last ++ more) (parts_longer more bytes lines last lacks cut) ∙ sym (cut_is bytes lines last cut)
+
+-- these and a newline behind them end the last part
+pub cut_line : (more bytes : List ℕ) (lines : List (List ℕ)) (last : List ℕ) → Lacks 10 more
+    → parts bytes ≡ lines ++ last ∷ [] → cut_of (bytes ++ (more ++ 10 ∷ [])) ≡ with_line (cut_of bytes) (last ++ more)
+cut_line more bytes lines last lacks cut =
+    cut_is (bytes ++ (more ++ 10 ∷ [])) (lines ++ (last ++ more) ∷ []) [] (parts_line more bytes lines last lacks cut)
+    ∙ fold_more nothing_cut lines ((last ++ more) ∷ [])
+    ∙ ap (λ (c : Cut). with_line c (last ++ more)) (sym (cut_is bytes lines last cut))
+
+-- at the end of the input the last part ends
+pub requests_are : (bytes : List ℕ) (lines : List (List ℕ)) (last : List ℕ) → parts bytes ≡ lines ++ last ∷ []
+    → requests bytes ≡ last_line (cut_of bytes).requests (cut_of bytes).open_batch last
+requests_are bytes lines last cut = ap (last_line (cut_of bytes).requests (cut_of bytes).open_batch) (last_is bytes lines last cut)
+
+-- The requests grow.
+
+-- the first requests are those of the front
+pub record More (front all : List Request) : Type 0 where
+  pub more : List Request
+  pub is : all ≡ front ++ more
+
+no_more : (these : List Request) → More these these
+no_more these = record { more = []; is = sym (append-nil these) }
+
+pub more_behind : (a b c : List Request) → More a b → More b c → More a c
+more_behind a b c first second = record {
+  more = first.more ++ second.more;
+  is = second.is ∙ ap (λ (l : List Request). l ++ second.more) first.is ∙ append_assoc a first.more second.more;
+}
+
+whole_more : (whole : Bool) (these : List Request) (count : ℕ) (lines : List (List ℕ)) →
+    (let cut : Cut = if whole then record { requests = these ++ Batch count lines [] ∷ []; open_batch = None } else record { requests = these; open_batch = Some (record { count = count; lines = lines }) } in
+    More these cut.requests)
+whole_more true these count lines = record { more = Batch count lines [] ∷ []; is = refl }
+whole_more false these count lines = no_more these
+
+first_more : (these : List Request) (line : List ℕ) (count : Option ℕ) → More these (with_first these line count).requests
+first_more these line (Some count) = whole_more (length {A = List ℕ} [] == count) these count []
+first_more these line None = record { more = Line line ∷ []; is = refl }
+
+blank_more : (blank : Bool) (these : List Request) (line : List ℕ) →
+    (let cut : Cut = if blank then record { requests = these; open_batch = None } else with_first these line (batch_count line) in More these cut.requests)
+blank_more true these line = no_more these
+blank_more false these line = first_more these line (batch_count line)
+
+begin_more : (these : List Request) (line : List ℕ) → More these (begin these line).requests
+unfolding begin
+begin_more these line = blank_more (is_blank line) these line
+
+next_more : (these : List Request) (batch : Option Open) (part : List ℕ) → More these (next_line these batch part).requests
+next_more these None part = begin_more these (strip_carriage_return part)
+next_more these (Some batch) part = whole_more (length (batch.lines ++ part ∷ []) == batch.count) these batch.count (batch.lines ++ part ∷ [])
+
+closed_more : (these : List Request) (batch : Option Open) (rest : List ℕ) → More these (closed these batch rest)
+closed_more these None rest = no_more these
+closed_more these (Some batch) rest = record { more = Batch batch.count batch.lines rest ∷ []; is = refl }
+
+last_more : (these : List Request) (batch : Option Open) (part : List ℕ) → More these (last_line these batch part)
+last_more these None part =
+    let cut = begin these part in
+    more_behind these cut.requests (closed cut.requests cut.open_batch []) (begin_more these part) (closed_more cut.requests cut.open_batch [])
+last_more these (Some batch) part = closed_more these (Some batch) part
+
+ended_more : (bytes : List ℕ) (byte : ℕ) → More (ended_requests bytes) (ended_requests (bytes ++ byte ∷ []))
+ended_more bytes byte =
+    let cut = some_cut bytes in
+    elim (eqb_tells byte 10) [
+      | inl same ↦ (
+          let here = cut_line [] bytes cut.lines cut.last refl cut.is in
+          let next = next_more (cut_of bytes).requests (cut_of bytes).open_batch (cut.last ++ []) in
+          record {
+            more = next.more;
+            is = ap (λ (b : ℕ). ended_requests (bytes ++ b ∷ [])) same.1 ∙ ap (λ (c : Cut). c.requests) here ∙ next.is;
+          }
+          )
+      | inr other ↦ record {
+        more = [];
+        is = ap (λ (c : Cut). c.requests) (cut_is (bytes ++ byte ∷ []) cut.lines (cut.last ++ byte ∷ []) (parts_same byte bytes cut.lines cut.last other.1 cut.is) ∙ sym (cut_is bytes cut.lines cut.last cut.is))
+            ∙ sym (append-nil (ended_requests bytes));
+      }
+    ]
+
+more_ended : (bytes further : List ℕ) → More (ended_requests bytes) (ended_requests (bytes ++ further))
+more_ended bytes [] = record { more = []; is = ap ended_requests (append-nil bytes) ∙ sym (append-nil (ended_requests bytes)) }
+more_ended bytes (byte ∷ further) =
+    subst (λ (l : List ℕ). More (ended_requests bytes) (ended_requests l)) (append_assoc bytes (byte ∷ []) further)
+    (more_behind (ended_requests bytes) (ended_requests (bytes ++ byte ∷ [])) (ended_requests ((bytes ++ byte ∷ []) ++ further))
+    (ended_more bytes byte) (more_ended (bytes ++ byte ∷ []) further))
+
+more_requests : (bytes further : List ℕ) → More (ended_requests bytes) (requests (bytes ++ further))
+more_requests bytes further =
+    let whole = bytes ++ further in
+    more_behind (ended_requests bytes) (ended_requests whole) (requests whole) (more_ended bytes further)
+    (last_more (cut_of whole).requests (cut_of whole).open_batch (last_part (parts whole)))
+
+-- the requests that some bytes end are the first of those of longer ones
+pub more_complete : (ended : Bool) (bytes further : List ℕ) → More (ended_requests bytes) (complete_requests ended (bytes ++ further))
+more_complete true bytes further = more_requests bytes further
+more_complete false bytes further = more_ended bytes further

@@ -1,5 +1,5 @@
 -- What is kept of a line when bytes come.
-use Rattle.std.proofs.Common.{◌≡◌, ◌<◌, ◌≤◌, ◌+◌, ◌-◌, ℕ, zero, suc, min, Bool, true, false, ◌&&◌, ◌==◌, List, [], ◌∷◌, ◌++◌, length, take, slice_index, get_or, refl, sym, ap, ◌∙◌, subst, arith, inl, inr, ◌⊎◌, length-append, append_assoc, if◌then◌else◌}
+use Rattle.std.proofs.Common.{◌≡◌, ◌<◌, ◌≤◌, ◌+◌, ◌-◌, ℕ, zero, suc, min, Bool, true, false, ◌&&◌, ◌==◌, List, [], ◌∷◌, ◌++◌, length, take, drop, slice_index, get_or, refl, sym, ap, ◌∙◌, arith, inl, inr, ◌⊎◌, length-append, append_assoc, if◌then◌else◌}
 use Rattle.std.specs.Str.Lines.{strip_carriage_return}
 use Rattle.std.proofs.lemmas.List.{take_all, take-append-le, length-take, append-nil}
 use Rattle.std.proofs.Math.Seq.{take-append_seam}
@@ -8,7 +8,7 @@ use Rattle.session_loop.specs.declared.shape.Shape.{Shape}
 use Rattle.session_loop.specs.declared.shape.Shape.TheVariants.{Spaces, SpacesAndReturn, Words}
 use Rattle.session_model.specs.Lines.{is_blank}
 use Rattle.session_model.proofs.TextLemmas.{and_parts}
-use Rattle.session_loop.specs.Shapes.{shape_of, shape_after, shape_behind}
+use Rattle.session_loop.specs.Shapes.{shape_of, shape_after, shape_behind, is_spaces, stripped_shape}
 use Rattle.session_loop.specs.LineAsItComes.{most_kept, StandsFor}
 
 le_or_lt : (m n : ℕ) → (m ≤ n) ⊎ (n < m)
@@ -16,10 +16,22 @@ le_or_lt zero n = inl (omega arith)
 le_or_lt (suc m) zero = inr (omega arith)
 le_or_lt (suc m) (suc n) = elim (le_or_lt m n) [ inl h ↦ inl (omega arith) | inr h ↦ inr (omega arith) ]
 
-take_least : (n : ℕ) (l : List ℕ) → take (min n (length l)) l ≡ take n l
+pub take_least : (n : ℕ) (l : List ℕ) → take (min n (length l)) l ≡ take n l
 take_least n l = elim (le_or_lt n (length l)) [
   | inl short ↦ (let e : min n (length l) ≡ n = omega arith in ap (λ (k : ℕ). take k l) e)
   | inr long ↦ (let e : min n (length l) ≡ length l = omega arith in ap (λ (k : ℕ). take k l) e ∙ take_all (length l) l (omega arith) ∙ sym (take_all n l (omega arith)))
+]
+
+none_left : (n : ℕ) (l : List ℕ) → length l ≤ n → drop n l ≡ []
+none_left zero [] short = refl
+none_left zero (x ∷ l) short = absurd (omega arith)
+none_left (suc n) [] short = refl
+none_left (suc n) (x ∷ l) short = none_left n l (omega arith)
+
+pub drop_least : (n : ℕ) (l : List ℕ) → drop (min n (length l)) l ≡ drop n l
+drop_least n l = elim (le_or_lt n (length l)) [
+  | inl short ↦ (let e : min n (length l) ≡ n = omega arith in ap (λ (k : ℕ). drop k l) e)
+  | inr long ↦ (let e : min n (length l) ≡ length l = omega arith in ap (λ (k : ℕ). drop k l) e ∙ none_left (length l) l (omega arith) ∙ sym (none_left n l (omega arith)))
 ]
 
 take_over : (n : ℕ) (a b : List ℕ) → length a ≤ n → take n (a ++ b) ≡ a ++ take (n - length a) b
@@ -112,46 +124,32 @@ stripped_len : (t : Bool) (l : List ℕ) → length l ≤ length (if t then take
 stripped_len true l = let len = length-take (length l - 1) l in omega arith
 stripped_len false l = omega arith
 
-strip_len : (l : List ℕ) → length l ≤ length (strip_carriage_return l) + 1
+pub strip_len : (l : List ℕ) → length l ≤ length (strip_carriage_return l) + 1
 strip_len l = stripped_len (slice_index l (length l - 1) == 13) l
 
-pub stands_for : (text kept : List ℕ) → kept ≡ take most_kept text → StandsFor kept text
+pub stands_for : (text kept : List ℕ) → kept ≡ take most_kept text → StandsFor 65537 kept text
 unfolding most_kept
-stands_for text kept is = elim (stands_here 65537 text kept is) [ inl same ↦ inl same | inr long ↦ inr (omega arith, omega arith) ]
+stands_for text kept is = elim (stands_here 65538 text kept is) [ inl same ↦ inl same | inr long ↦ inr (omega arith, omega arith) ]
 
-pub stands_stripped : (text kept : List ℕ) → kept ≡ take most_kept text → StandsFor (strip_carriage_return kept) (strip_carriage_return text)
+pub stands_whole : (kept text : List ℕ) → StandsFor 65537 kept text → StandsFor 65536 kept text
+stands_whole kept text stands = elim stands [ inl same ↦ inl same | inr long ↦ inr (omega arith, omega arith) ]
+
+pub stands_stripped : (text kept : List ℕ) → kept ≡ take most_kept text → StandsFor 65536 (strip_carriage_return kept) (strip_carriage_return text)
 unfolding most_kept
 stands_stripped text kept is =
     let a = strip_len kept in let b = strip_len text in
-    elim (stands_here 65537 text kept is) [ inl same ↦ inl (ap strip_carriage_return same) | inr long ↦ inr (omega arith, omega arith) ]
+    elim (stands_here 65538 text kept is) [ inl same ↦ inl (ap strip_carriage_return same) | inr long ↦ inr (omega arith, omega arith) ]
 
--- what the shape of a text tells of it
-ShapeTells : Shape → Bool → Bool → Type 0
-ShapeTells Spaces blank stripped = blank ≡ true
-ShapeTells SpacesAndReturn blank stripped = (blank ≡ false) × (stripped ≡ true)
-ShapeTells Words blank stripped = (blank ≡ false) × (stripped ≡ false)
+taken_either : (t : Bool) (l : List ℕ) → take (length (if t then take (length l - 1) l else l)) l ≡ (if t then take (length l - 1) l else l)
+taken_either true l =
+    let len = length-take (length l - 1) l in
+    let short : length (take (length l - 1) l) ≡ length l - 1 = omega arith in
+    ap (λ (n : ℕ). take n l) short
+taken_either false l = take_all (length l) l (omega arith)
 
-tells : (blank stripped : Bool) → ShapeTells (if blank then Spaces else (if stripped then SpacesAndReturn else Words)) blank stripped
-unfolding ShapeTells
-tells true stripped = refl
-tells false true = (refl, refl)
-tells false false = (refl, refl)
-
-shape_tells : (text : List ℕ) → ShapeTells (shape_of text) (is_blank text) (is_blank (strip_carriage_return text))
-unfolding shape_of
-shape_tells text = tells (is_blank text) (is_blank (strip_carriage_return text))
-
-pub spaces_tell : (text : List ℕ) → shape_of text ≡ Spaces → is_blank text ≡ true
-unfolding ShapeTells
-spaces_tell text is = subst (λ (s : Shape). ShapeTells s (is_blank text) (is_blank (strip_carriage_return text))) is (shape_tells text)
-
-pub returns_tell : (text : List ℕ) → shape_of text ≡ SpacesAndReturn → (is_blank text ≡ false) × (is_blank (strip_carriage_return text) ≡ true)
-unfolding ShapeTells
-returns_tell text is = subst (λ (s : Shape). ShapeTells s (is_blank text) (is_blank (strip_carriage_return text))) is (shape_tells text)
-
-pub words_tell : (text : List ℕ) → shape_of text ≡ Words → (is_blank text ≡ false) × (is_blank (strip_carriage_return text) ≡ false)
-unfolding ShapeTells
-words_tell text is = subst (λ (s : Shape). ShapeTells s (is_blank text) (is_blank (strip_carriage_return text))) is (shape_tells text)
+-- a line less its carriage return is a front of it
+pub strip_taken : (l : List ℕ) → take (length (strip_carriage_return l)) l ≡ strip_carriage_return l
+strip_taken l = taken_either (slice_index l (length l - 1) == 13) l
 
 all_front : (n : ℕ) (text : List ℕ) → is_blank text ≡ true → is_blank (take n text) ≡ true
 all_front zero text blank = refl
@@ -167,15 +165,22 @@ blank_either false text blank = blank
 pub blank_stripped : (text : List ℕ) → is_blank text ≡ true → is_blank (strip_carriage_return text) ≡ true
 blank_stripped text blank = blank_either (slice_index text (length text - 1) == 13) text blank
 
-front_empty : (n : ℕ) (text : List ℕ) → take (suc n) text ≡ [] → text ≡ []
-front_empty n [] same = refl
-front_empty n (b ∷ text) same = cc
+whole_table : (blank stripped : Bool) → is_spaces (if blank then Spaces else (if stripped then SpacesAndReturn else Words)) ≡ blank
+whole_table true stripped = refl
+whole_table false true = refl
+whole_table false false = refl
 
--- nothing is kept of nothing alone
-pub nothing_kept : (text kept : List ℕ) → kept ≡ take most_kept text → kept ≡ [] → text ≡ []
-unfolding most_kept
-nothing_kept text kept is none = front_empty 65536 text (sym is ∙ none)
+-- the shape tells whether the text is blank
+pub whole_tells : (text : List ℕ) → is_spaces (shape_of text) ≡ is_blank text
+unfolding shape_of
+whole_tells text = whole_table (is_blank text) (is_blank (strip_carriage_return text))
 
-pub nothing_held : (text kept : List ℕ) → kept ≡ take most_kept text → text ≡ [] → kept ≡ []
-unfolding most_kept
-nothing_held text kept is none = is ∙ ap (take 65537) none
+stripped_table : (blank stripped : Bool) → (blank ≡ true → stripped ≡ true) → is_spaces (stripped_shape (if blank then Spaces else (if stripped then SpacesAndReturn else Words))) ≡ stripped
+stripped_table true stripped h = sym (h refl)
+stripped_table false true h = refl
+stripped_table false false h = refl
+
+-- and whether it is blank less one carriage return at its end
+pub stripped_tells : (text : List ℕ) → is_spaces (stripped_shape (shape_of text)) ≡ is_blank (strip_carriage_return text)
+unfolding shape_of
+stripped_tells text = stripped_table (is_blank text) (is_blank (strip_carriage_return text)) (blank_stripped text)

@@ -1,15 +1,18 @@
 -- Words are names, in ASCII, and hold neither a space nor an equals sign.
-use Rattle.std.proofs.Common.{◌≡◌, ◌<◌, ◌-◌, ℕ, zero, suc, Bool, true, false, List, [], ◌∷◌, length, slice_index, get_or, refl, ap, ◌∙◌, arith, if◌then◌else◌}
+use Rattle.std.proofs.Common.{◌≡◌, ◌<◌, ◌-◌, ℕ, zero, suc, Bool, true, false, List, [], ◌∷◌, length, take, drop, slice_index, get_or, refl, sym, ap, ◌∙◌, subst, arith, ◌≤◌, codes, Some, None, if◌then◌else◌}
 use Rattle.std.specs.List.{list_all}
-use Rattle.std.specs.Str.{IsUtf8}
-use Rattle.std.proofs.lemmas.Str.{IsUtf8-from_ascii}
+use Rattle.std.specs.Str.{IsUtf8, str_eq_ignore_ascii_case, str_to_ascii_lowercase}
+use Rattle.std.specs.Char.{to_ascii_lowercase}
+use Rattle.std.proofs.lemmas.Str.{IsUtf8-from_ascii, IsUtf8-drop, IsCharBoundary-after_ascii}
+use Rattle.std.proofs.lemmas.List.{length-take, length-map}
 use Rattle.std.proofs.lemmas.Bool.Decides.{nat_tests}
 use Rattle.std.proofs.lemmas.List.Sums.{AllPass-from_list_all}
 use Rattle.tsdb_types.specs.Names.{IsName}
 use Rattle.tsdb_types.specs.Series.{measurement_text, measurement_ends_at}
 use Rattle.session_model.specs.Readable.{Lacks}
-use Rattle.session_model.specs.Words.{IsWord, is_letter, is_letter_or_digit}
+use Rattle.session_model.specs.Words.{IsWord, is_letter, is_letter_or_digit, behind_word, inserted_line}
 use Rattle.session_model.proofs.TextLemmas.{and_parts, lacks_other}
+use Rattle.std.proofs.lemmas.Slice.Eq.{bytes_eq-Decides}
 
 -- a word lacks each byte that no word has
 pub word_lacks : (byte : ℕ) → is_letter_or_digit byte ≡ false → (text : List ℕ) → IsWord text → Lacks byte text
@@ -59,3 +62,34 @@ pub word_is_plain : (text : List ℕ) → IsWord text → measurement_text text 
 word_is_plain text word = plain_bytes text word.each
 
 pub ruleset word_laws = (word_is_utf8, word_is_name)
+
+-- What stands behind a word and a space of a text is a text.
+
+space_from_lower : (b : ℕ) → to_ascii_lowercase b ≡ 32 → b ≡ 32
+space_from_lower b same = grind (arith, nat_tests)
+
+lower_at : (l : List ℕ) (i : ℕ) → i < length l → get_or (str_to_ascii_lowercase l) i 0 ≡ to_ascii_lowercase (get_or l i 0)
+lower_at [] i below = absurd (omega arith)
+lower_at (b ∷ l) zero below = refl
+lower_at (b ∷ l) (suc i) below = lower_at l i (omega arith)
+
+some_then : (t : Bool) (back text : List ℕ) → (if t then Some back else None) ≡ Some text → (t ≡ true) × (back ≡ text)
+some_then true back text same = (refl, cc)
+some_then false back text same = cc
+
+get_front : (n i : ℕ) (l : List ℕ) → i < n → get_or (take n l) i 0 ≡ get_or l i 0
+get_front zero i l below = absurd (omega arith)
+get_front (suc n) i [] below = refl
+get_front (suc n) zero (b ∷ l) below = refl
+get_front (suc n) (suc i) (b ∷ l) below = get_front n i l (omega arith)
+
+pub behind_text : (line text : List ℕ) → IsUtf8 line → inserted_line line ≡ Some text → IsUtf8 text
+unfolding behind_word
+behind_text line text utf8 behind =
+    let parts = some_then (str_eq_ignore_ascii_case (take 7 line) (codes "INSERT ")) (drop 7 line) text behind in
+    let lower : str_to_ascii_lowercase (take 7 line) ≡ str_to_ascii_lowercase (codes "INSERT ") = (bytes_eq-Decides (str_to_ascii_lowercase (take 7 line)) (str_to_ascii_lowercase (codes "INSERT "))).0 parts.0 in
+    let whole : length (take 7 line) ≡ 7 = sym (length-map (take 7 line) to_ascii_lowercase) ∙ ap length lower in
+    let long : 7 ≤ length line = (let len = length-take 7 line in omega arith) in
+    let space : get_or line 6 0 ≡ 32 = sym (get_front 7 6 line (omega arith))
+    ∙ space_from_lower (get_or (take 7 line) 6 0) (sym (lower_at (take 7 line) 6 (omega arith)) ∙ ap (λ (l : List ℕ). get_or l 6 0) lower) in
+    subst (λ (l : List ℕ). IsUtf8 l) parts.1 (IsUtf8-drop line 7 utf8 (IsCharBoundary-after_ascii line 6 utf8 (omega arith) (omega arith)))

@@ -1,7 +1,11 @@
+pub mod Asked
 pub mod Cuts
-pub mod Reading
-pub mod Shapes
+pub mod Gathered
 pub mod LineAsItComes
-pub mod Served
+pub mod Pendings
 pub mod Progress
 pub mod Sessions
+pub mod Shapes
+pub mod Steps
+pub mod Texts
+pub mod Merged

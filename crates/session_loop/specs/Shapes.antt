@@ -1,5 +1,5 @@
 -- What is a line made of, and is it blank?
-use Rattle.std.specs.Prelude.{ℕ, List, fold, if◌then◌else◌, ◌==◌}
+use Rattle.std.specs.Prelude.{ℕ, Bool, true, false, List, fold, if◌then◌else◌, ◌==◌}
 use Rattle.std.specs.Str.Lines.{strip_carriage_return}
 use Rattle.session_model.specs.Lines.{is_blank}
 use Rattle.session_loop.specs.declared.shape.Shape.{Shape}
@@ -18,3 +18,15 @@ shape_after Words byte = Words
 -- the same of the text with these bytes more
 abbrev pub shape_behind : Shape → List ℕ → Shape
 shape_behind shape bytes = fold shape_after shape bytes
+
+-- nothing but spaces
+abbrev pub is_spaces : Shape → Bool
+is_spaces Spaces = true
+is_spaces SpacesAndReturn = false
+is_spaces Words = false
+
+-- the same of the text less one carriage return at its end
+abbrev pub stripped_shape : Shape → Shape
+stripped_shape Spaces = Spaces
+stripped_shape SpacesAndReturn = Spaces
+stripped_shape Words = Words

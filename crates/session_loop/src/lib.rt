@@ -1,17 +1,21 @@
-//! A session: reads a client's requests from a source, one line after another, and writes the reply to each into a
-//! sink before the next is served. `mem` serves one client over a map in memory.
+//! A session: reads a client's requests from a source, one after another, and writes the reply to each into a sink before
+//! the next is served. `session` serves a client over any store.
 #![tactic(auto)]
 
-mod database;
+mod client;
+mod gathering;
 mod line;
-mod memory;
+mod pending;
 mod pieces;
+mod read;
 mod replies;
-mod request;
-mod session;
+mod select;
+mod serve;
 mod shape;
+mod whole;
+mod words;
 
-pub use memory::mem;
+pub use whole::session;
 
 #[cfg(test)]
 mod tests;

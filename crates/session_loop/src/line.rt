@@ -1,25 +1,25 @@
-//! A line of the input that comes in several pieces.
-ghost use Rattle.std.specs.Prelude.{◌≡◌, ◌≤◌, ◌++◌, [], List, ℕ, true, false, IsTrue, ◌↔◌, IfOk, MatchOption};
+//! A line of the input, as it comes in pieces.
+ghost use Rattle.std.specs.Prelude.{◌≡◌, ◌≤◌, ◌++◌, [], List, ℕ, IfOk};
 ghost use Rattle.std.specs.Str.Lines.{strip_carriage_return};
 ghost use Rattle.std.specs.Vec.{vec_capacity};
 
 use crate::pieces::front;
-use crate::shape::{Shape, shape_behind};
+use crate::shape::{Shape, is_spaces, shape_behind, stripped_shape};
 use std::alloc::{AllocError, Global};
 
-/// How much of a line is kept. A longer line says nothing that is built.
-const KEPT: usize = 65_537;
+/// How much of a line is kept: one byte more than the longest line, with a carriage return at its end.
+const KEPT: usize = 65_538;
 
 /// The front of a line. Its room is taken once.
 #[derive(Drop)]
 pub struct Line {
     kept: Vec<u8>,
     shape: Shape,
-    ghost room: { 65537 ≤ vec_capacity kept },
+    ghost room: { 65538 ≤ vec_capacity kept },
 }
 
 impl Line {
-    ghost use Rattle.session_loop.specs.LineAsItComes.{Holds, StandsFor};
+    ghost use Rattle.session_loop.specs.LineAsItComes.{Holds, Stands};
     ghost use Rattle.session_model.specs.Lines.{is_blank};
 
     pub fn new(alloc: Global) -> Result<Self, AllocError>
@@ -29,13 +29,6 @@ impl Line {
             kept: Vec::with_capacity(alloc, KEPT)?,
             shape: Shape::Spaces,
         })
-    }
-
-    /// Whether nothing has come.
-    pub fn is_empty(&self) -> bool
-        ensures { (text : List ℕ) → Holds self.now text → IsTrue result ↔ (text ≡ []) }
-    {
-        self.kept.is_empty()
     }
 
     /// Adds what has come.
@@ -56,26 +49,27 @@ impl Line {
         self.shape = Shape::Spaces;
     }
 
-    /// The line that a newline ends, unless it is blank.
-    pub fn ended(&self) -> Option<&[u8]>
-        ensures { (text : List ℕ) → Holds self.now text → MatchOption result (is_blank (strip_carriage_return text) ≡ true)
-            (λ kept. (is_blank (strip_carriage_return text) ≡ false) × StandsFor kept.now (strip_carriage_return text)) }
+    /// What has come.
+    pub fn kept(&self) -> &[u8]
+        ensures { result.now ≡ self.now.kept.items }
     {
-        match self.shape {
-            Shape::Words => Some(without_return(&self.kept)),
-            Shape::Spaces | Shape::SpacesAndReturn => None,
-        }
+        &self.kept
     }
 
-    /// The line that the input ends, unless it is blank.
-    pub fn cut_off(&self) -> Option<&[u8]>
-        ensures { (text : List ℕ) → Holds self.now text → MatchOption result (is_blank text ≡ true)
-            (λ kept. (is_blank text ≡ false) × StandsFor kept.now text) }
+    /// A newline ends the line: a carriage return at its end goes with it.
+    pub fn strip(&mut self)
+        ensures { (text : List ℕ) → Holds self.old text → Stands self.new (strip_carriage_return text) }
     {
-        match self.shape {
-            Shape::Spaces => None,
-            Shape::SpacesAndReturn | Shape::Words => Some(&self.kept),
-        }
+        let length = without_return(&self.kept).len();
+        self.kept.truncate(length);
+        self.shape = stripped_shape(self.shape);
+    }
+
+    /// Whether the line has no byte but spaces.
+    pub fn is_blank(&self) -> bool
+        ensures { (text : List ℕ) → Stands self.now text → result ≡ is_blank text }
+    {
+        is_spaces(self.shape)
     }
 }
 

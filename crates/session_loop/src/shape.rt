@@ -12,7 +12,27 @@ pub enum Shape {
     Words,
 }
 
-ghost use Rattle.session_loop.specs.Shapes.{shape_after, shape_behind as shape_of_more};
+ghost use Rattle.session_loop.specs.Shapes.{shape_after, shape_behind as shape_of_more, is_spaces as is_spaces_shape, stripped_shape as shape_stripped};
+
+/// Whether the line is blank.
+pub fn is_spaces(shape: Shape) -> bool
+    ensures { result ≡ is_spaces_shape shape }
+{
+    match shape {
+        Shape::Spaces => true,
+        Shape::SpacesAndReturn | Shape::Words => false,
+    }
+}
+
+/// What the line is made of less one carriage return at its end.
+pub fn stripped_shape(shape: Shape) -> Shape
+    ensures { result ≡ shape_stripped shape }
+{
+    match shape {
+        Shape::Spaces | Shape::SpacesAndReturn => Shape::Spaces,
+        Shape::Words => Shape::Words,
+    }
+}
 
 /// What the line is made of with one byte more.
 fn next_shape(shape: Shape, byte: u8) -> Shape

@@ -1,4 +1,7 @@
-pub mod HistoryLemmas
 pub mod TextLemmas
+pub mod NameLemmas
+pub mod TableLemmas
 pub mod ReadableLemmas
-pub mod ReadableRuns
+pub mod HistoryLemmas
+pub mod MeaningLemmas
+pub mod TranscriptLemmas

@@ -1,5 +1,5 @@
 -- Texts that lack a byte, and the texts of numbers.
-use Rattle.std.proofs.Common.{◌≡◌, ◌<◌, ◌≤◌, ◌+◌, ◌^◌, ◌%◌, ℕ, ℤ, pos, negsuc, suc, Bool, true, false, not, ◌&&◌, ◌||◌, ◌==◌, nat_le, List, [], ◌∷◌, ◌++◌, length, inl, inr, refl, ap, sym, ◌∙◌, arith}
+use Rattle.std.proofs.Common.{◌≡◌, ◌<◌, ◌≤◌, ◌+◌, ◌^◌, ◌%◌, ℕ, ℤ, pos, negsuc, suc, Bool, true, false, not, ◌&&◌, ◌||◌, ◌==◌, nat_le, List, [], ◌∷◌, ◌++◌, length, inl, inr, refl, ap, sym, subst, ◌∙◌, arith}
 use Rattle.std.specs.List.{list_all}
 use Rattle.std.specs.Fmt.{decimal, signed_decimal}
 use Rattle.std.specs.Str.Parse.{digits_value}
@@ -56,8 +56,25 @@ cut_at byte (x ∷ a) (y ∷ b) u v first second same =
     (and_parts (not (y == byte)) (list_all (λ z. not (z == byte)) b) second).1 tail in
     (cc (head, rest.0), rest.1)
 
-pub is_digit : ℕ → Bool
-is_digit byte = nat_le 48 byte && nat_le byte 57
+-- a byte stands in what it stands between
+pub not_between : (byte : ℕ) (a b : List ℕ) → Lacks byte (a ++ byte ∷ b) → ⊥
+not_between byte [] b lacks = not_itself byte (and_parts (not (byte == byte)) (list_all (λ x. not (x == byte)) b) lacks).0
+not_between byte (x ∷ a) b lacks = not_between byte a b (and_parts (not (x == byte)) (list_all (λ z. not (z == byte)) (a ++ byte ∷ b)) lacks).1
+
+-- a text has one last place of a byte
+pub cut_last : (byte : ℕ) (a b u v : List ℕ) → Lacks byte u → Lacks byte v → a ++ byte ∷ u ≡ b ++ byte ∷ v → (a ≡ b) × (u ≡ v)
+cut_last byte [] [] u v first second same = (refl, cc)
+cut_last byte [] (y ∷ b) u v first second same =
+    let tail : u ≡ b ++ byte ∷ v = cc in
+    absurd (not_between byte b v (subst (λ (t : List ℕ). Lacks byte t) tail first))
+cut_last byte (x ∷ a) [] u v first second same =
+    let tail : a ++ byte ∷ u ≡ v = cc in
+    absurd (not_between byte a u (subst (λ (t : List ℕ). Lacks byte t) (sym tail) second))
+cut_last byte (x ∷ a) (y ∷ b) u v first second same =
+    let head : x ≡ y = cc in
+    let tail : a ++ byte ∷ u ≡ b ++ byte ∷ v = cc in
+    let rest = cut_last byte a b u v first second tail in
+    (cc (head, rest.0), rest.1)
 
 -- a byte that a number may begin with
 unfoldable pub begins_number : ℕ → Bool

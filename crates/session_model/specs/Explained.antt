@@ -7,7 +7,7 @@ use Rattle.session_io.specs.declared.report.End.{End}
 use Rattle.session_io.specs.declared.report.End.TheVariants.{Read, SourceFault, SinkFault, Memory}
 use Rattle.point_model.specs.Histories.{Entry, State, state_after}
 use Rattle.session_model.specs.Lines.{Request, requests, ended_requests}
-use Rattle.session_model.specs.Machine.{Answer, Serves, IsAside}
+use Rattle.session_model.specs.Machine.{Answer, Serves, IsAside, IsOutOfMemory}
 use Rattle.session_model.specs.Replies.{text, accepted}
 use Rattle.session_model.specs.Readable.{IsReadable}
 
@@ -21,27 +21,27 @@ pub record Transcript : Type 0 where
   pub report : Report
 
 -- in the state behind so many entries of the history the answer is the machine's, and its entry is the history's
--- next; or the answer is none of the machine's
-abbrev pub IsGivenAt : State → List Entry → ℕ → Answer → ℕ → Type 0
-IsGivenAt start history client answer place = (place ≤ length history)
-    × (IsAside (state_after start (take place history)) answer
+-- next; or the answer is none of the machine's, and has its cause there
+abbrev pub IsGivenAt : (List Entry → Answer → Type 0) → State → List Entry → ℕ → Answer → ℕ → Type 0
+IsGivenAt HasCause start history client answer place = (place ≤ length history)
+    × (IsAside (HasCause (take place history)) (state_after start (take place history)) answer
     ⊎ ((entry : Option Entry) × Serves (state_after start (take place history)) client answer entry
     × IfSome entry (λ made. slice_get history place ≡ Some made)))
 
 -- The answers take places in the history that never fall, and each is behind the entries that the client was told
 -- before were accepted.
-abbrev pub TakePlaces : State → List Entry → ℕ → ℕ → List Answer → Type 0
-TakePlaces start history client least [] = Unit {0}
-TakePlaces start history client least (answer ∷ answers) = (place : ℕ) × (least ≤ place)
-    × IsGivenAt start history client answer place
-    × TakePlaces start history client (place + length (accepted answer.reply)) answers
+abbrev pub TakePlaces : (List Entry → Answer → Type 0) → State → List Entry → ℕ → ℕ → List Answer → Type 0
+TakePlaces HasCause start history client least [] = Unit {0}
+TakePlaces HasCause start history client least (answer ∷ answers) = (place : ℕ) × (least ≤ place)
+    × IsGivenAt HasCause start history client answer place
+    × TakePlaces HasCause start history client (place + length (accepted answer.reply)) answers
 
 -- the part is a proper front of the reply, or there is no further reply and no part
 abbrev pub IsCutShort : List ℕ → Option Answer → Type 0
 IsCutShort part None = part ≡ []
 IsCutShort part (Some answer) = (rest : List ℕ) × (0 < length rest) × (text answer.reply ≡ part ++ rest)
 
--- the requests that may be answered: those whose line has ended, by a newline or with the input
+-- the requests that may be answered: those whose last line has ended, by a newline or with the input
 abbrev pub complete_requests : Bool → List ℕ → List Request
 complete_requests true bytes = requests bytes
 complete_requests false bytes = ended_requests bytes
@@ -54,7 +54,7 @@ HasAsked SourceFault ended bytes asked cut = (asked ≡ ended_requests bytes) ×
 HasAsked SinkFault ended bytes asked cut = (more : List Request) × (complete_requests ended bytes ≡ asked ++ more) × IsSome cut
 HasAsked Memory ended bytes asked cut = (more : List Request) × (complete_requests ended bytes ≡ asked ++ more)
 
--- the greatest number that was told with an answer; that of the start where none was
+-- the greatest number that was told with an answer; that of the opening where none was
 abbrev pub last_told : ℕ → List Answer → ℕ
 last_told number answers = fold max number (flat_map (λ answer. option_to_list answer.number) answers)
 
@@ -66,8 +66,9 @@ pub record Dialogue : Type 0 where
 abbrev pub all_answers : Dialogue → List Answer
 all_answers dialogue = dialogue.answers ++ option_to_list dialogue.cut
 
--- The transcript is that of this dialogue. The count of replies stays at its greatest value.
-pub record Records (start : State) (transcript : Transcript) (dialogue : Dialogue) : Type 0 where
+-- The transcript is that of this dialogue of a client that was opened at this number. The count of replies stays at its
+-- greatest value.
+pub record Records (opening : ℕ) (transcript : Transcript) (dialogue : Dialogue) : Type 0 where
   pub asked : HasAsked transcript.report.end transcript.ended transcript.read (map (λ answer. answer.request) (all_answers dialogue)) dialogue.cut
   pub moments : transcript.moments ≡ map (λ answer. answer.moment) (all_answers dialogue)
   pub part : List ℕ
@@ -75,31 +76,40 @@ pub record Records (start : State) (transcript : Transcript) (dialogue : Dialogu
   pub cut_short : IsCutShort part dialogue.cut
   pub readable : All (λ answer. IsReadable answer.reply) (all_answers dialogue)
   pub counted : transcript.report.requests ≡ min (length dialogue.answers) (2 ^ 64 - 1)
-  pub last : transcript.report.last ≡ last_told start.number (all_answers dialogue)
+  pub last : transcript.report.last ≡ last_told opening (all_answers dialogue)
 
 -- the numbers of the entries that the client was told, or would have been told by the reply that was cut short
 abbrev pub own_numbers : Dialogue → List ℕ
 own_numbers dialogue = flat_map (λ answer. accepted answer.reply) (all_answers dialogue)
 
+-- the client was opened at this place of the history, and its answers take their places behind it
+pub record IsTold (HasCause : List Entry → Answer → Type 0) (start : State) (history : List Entry) (client : ℕ) (transcript : Transcript) (dialogue : Dialogue) (place : ℕ) : Type 0 where
+  pub within : place ≤ length history
+  pub records : Records (start.number + place) transcript dialogue
+  pub places : TakePlaces HasCause start history client place (all_answers dialogue)
+
 -- the transcripts are those of the dialogues, one by one, and each dialogue takes its places in the history; the
 -- clients are numbered from this one on
-abbrev pub AreToldFrom : State → List Entry → ℕ → List Transcript → List Dialogue → Type 0
-AreToldFrom start history client [] [] = Unit {0}
-AreToldFrom start history client (transcript ∷ transcripts) (dialogue ∷ dialogues) =
-    Records start transcript dialogue
-    × TakePlaces start history client 0 (all_answers dialogue)
-    × AreToldFrom start history (client + 1) transcripts dialogues
-AreToldFrom start history client [] (dialogue ∷ dialogues) = ⊥
-AreToldFrom start history client (transcript ∷ transcripts) [] = ⊥
+abbrev pub AreToldFrom : (List Entry → Answer → Type 0) → State → List Entry → ℕ → List Transcript → List Dialogue → Type 0
+AreToldFrom HasCause start history client [] [] = Unit {0}
+AreToldFrom HasCause start history client (transcript ∷ transcripts) (dialogue ∷ dialogues) =
+    (place : ℕ) × IsTold HasCause start history client transcript dialogue place
+    × AreToldFrom HasCause start history (client + 1) transcripts dialogues
+AreToldFrom HasCause start history client [] (dialogue ∷ dialogues) = ⊥
+AreToldFrom HasCause start history client (transcript ∷ transcripts) [] = ⊥
 
 -- the numbers of the entries, from this one on
 abbrev pub numbers_from : ℕ → List Entry → List ℕ
 numbers_from number [] = []
 numbers_from number (entry ∷ entries) = number ∷ numbers_from (number + 1) entries
 
--- Each reply is the machine's at a place of the history, in an order that its client saw; and each entry's number was
--- told once, in a reply or in one that was cut short.
-pub record Explained (start : State) (history : List Entry) (transcripts : List Transcript) : Type 0 where
+-- Each reply is the machine's at a place of the history, in an order that its client saw, or has its cause; and each
+-- entry's number was told once, in a reply or in one that was cut short.
+pub record ExplainedBut (HasCause : List Entry → Answer → Type 0) (start : State) (history : List Entry) (transcripts : List Transcript) : Type 0 where
   pub dialogues : List Dialogue
-  pub told : AreToldFrom start history 0 transcripts dialogues
+  pub told : AreToldFrom HasCause start history 0 transcripts dialogues
   pub each_once : IsPermutation (flat_map own_numbers dialogues) (numbers_from (start.number + 1) history)
+
+-- each reply is the machine's, but for those that want memory
+abbrev pub Explained : State → List Entry → List Transcript → Type 0
+Explained start history transcripts = ExplainedBut (λ before. IsOutOfMemory) start history transcripts

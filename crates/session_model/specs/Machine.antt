@@ -1,15 +1,17 @@
 -- What does the machine of one thread reply to a request, and which entry does it make?
-use Rattle.std.specs.Prelude.{◌≡◌, ◌⊎◌, ℕ, ◌+◌, ℤ, nat_lt, List, [], ◌∷◌, map, Option, Some, None, if◌then◌else◌}
+use Rattle.std.specs.Prelude.{◌≡◌, ◌⊎◌, ℕ, ◌+◌, ℤ, nat_lt, nat_le, List, [], ◌∷◌, map, Option, Some, None, if◌then◌else◌}
+use Rattle.tsdb_types.specs.declared.point.Point.{Point}
 use Rattle.point_model.specs.Points.{Points}
 use Rattle.point_model.specs.Histories.{Entry, State, after_entry}
-use Rattle.point_model.specs.Histories.Entry.{Write}
+use Rattle.point_model.specs.Histories.Entry.{Write as Write_entry}
+use Rattle.point_model.specs.Acceptance.{Conflict, conflict}
 use Rattle.point_model.specs.Rows.{Row, rows_of}
 use Rattle.session_model.specs.declared.statement.Statement.{Statement}
-use Rattle.session_model.specs.declared.statement.Statement.TheVariants.{Insert, Select}
+use Rattle.session_model.specs.declared.statement.Statement.TheVariants as statement
 use Rattle.session_model.specs.Lines.{Request}
 use Rattle.session_model.specs.Requests.{Means}
 use Rattle.session_model.specs.Replies.{Reply, Table, ShownRow, shown, named}
-use Rattle.session_model.specs.Replies.Reply.{Accepted, Found, NotBuilt, HistoryFull, OutOfMemory}
+use Rattle.session_model.specs.Replies.Reply.{Accepted, Found, Reached, NotReached, NotBuilt, Refused, TypeConflict, HistoryFull, OutOfMemory, DeviceFault, Damaged, CacheFull, SeriesFull}
 
 abbrev pub shown_row : Row → ShownRow
 shown_row row = (row.0, shown row.1)
@@ -24,16 +26,22 @@ pub record Served : Type 0 where
   pub reply : Reply
   pub entry : Option Entry
 
--- what the machine gives to a client that means this, at these points and this number; no entry has a greater number
--- than the last of 63 bits
-abbrev pub serve : Points → ℕ → ℕ → Option Statement → Served
-serve points number client None = record { reply = NotBuilt; entry = None }
-serve points number client (Some (Select field measurement)) =
-    record { reply = Found number (tables_of measurement field (rows_of measurement field points)); entry = None }
-serve points number client (Some (Insert point)) =
-    if nat_lt number 9223372036854775807
-    then record { reply = Accepted (number + 1); entry = Some (Write client (point ∷ [])) }
+-- what the machine gives to a batch that may be accepted; no entry has a greater number than the last of 63 bits
+abbrev pub serve_batch : ℕ → ℕ → List Point → Option Conflict → Served
+serve_batch number client points (Some found) = record { reply = TypeConflict found.field found.held number; entry = None }
+serve_batch number client points None =
+    if nat_lt number 9223372036854775807 then record { reply = Accepted (number + 1); entry = Some (Write_entry client points) }
     else record { reply = HistoryFull; entry = None }
+
+-- what the machine gives to a client that asks for this, at these points and this number
+abbrev pub serve : Points → ℕ → ℕ → Statement → Served
+serve points number client (statement.Write batch) = serve_batch number client batch (conflict points batch)
+serve points number client (statement.Select field measurement) =
+    record { reply = Found number (tables_of measurement field (rows_of measurement field points)); entry = None }
+serve points number client (statement.After wanted) =
+    record { reply = if nat_le wanted number then Reached number else NotReached number; entry = None }
+serve points number client (statement.Refused refusal) = record { reply = Refused refusal; entry = None }
+serve points number client statement.NotBuilt = record { reply = NotBuilt; entry = None }
 
 -- a request, the moment that it took, the reply, and the number that the store told for it, if it told one
 pub record Answer : Type 0 where
@@ -44,17 +52,37 @@ pub record Answer : Type 0 where
 
 -- the answer is the machine's to a client in this state, and makes this entry or none
 pub record Serves (state : State) (client : ℕ) (answer : Answer) (entry : Option Entry) : Type 0 where
-  pub meaning : Option Statement
-  pub means : Means answer.request answer.moment meaning
-  pub reply : answer.reply ≡ (serve state.points state.number client meaning).reply
+  pub asks : Statement
+  pub means : Means answer.request answer.moment asks
+  pub reply : answer.reply ≡ (serve state.points state.number client asks).reply
   pub number : answer.number ≡ named answer.reply
-  pub entry_made : entry ≡ (serve state.points state.number client meaning).entry
+  pub entry_made : entry ≡ (serve state.points state.number client asks).entry
 
--- The answer is none of the machine's: it leaves the state, which it may have been told the number of. Why it comes
--- is said where it is made.
-pub record IsAside (state : State) (answer : Answer) : Type 0 where
-  pub memory : answer.reply ≡ OutOfMemory
+-- the replies that are none of the machine's
+abbrev pub IsOfStore : Reply → Type 0
+IsOfStore OutOfMemory = Unit {0}
+IsOfStore DeviceFault = Unit {0}
+IsOfStore (Damaged file offset) = Unit {0}
+IsOfStore (CacheFull held) = Unit {0}
+IsOfStore (SeriesFull held) = Unit {0}
+IsOfStore (Accepted number) = ⊥
+IsOfStore (Found number tables) = ⊥
+IsOfStore (Reached number) = ⊥
+IsOfStore (NotReached number) = ⊥
+IsOfStore NotBuilt = ⊥
+IsOfStore (Refused refusal) = ⊥
+IsOfStore (TypeConflict field held number) = ⊥
+IsOfStore HistoryFull = ⊥
+
+-- The answer is none of the machine's, and has its cause: it leaves the state, which it may have been told the number of.
+pub record IsAside (HasCause : Answer → Type 0) (state : State) (answer : Answer) : Type 0 where
+  pub aside : IsOfStore answer.reply
+  pub cause : HasCause answer
   pub number : (answer.number ≡ None) ⊎ (answer.number ≡ Some state.number)
+
+-- the answer says that there was no memory for the request
+abbrev pub IsOutOfMemory : Answer → Type 0
+IsOutOfMemory answer = answer.reply ≡ OutOfMemory
 
 -- the state behind an entry, if there is one
 abbrev pub with_entry : State → Option Entry → State
@@ -63,7 +91,7 @@ with_entry state (Some entry) = record { points = after_entry state.points entry
 
 -- the client is given this answer, which leads from one state to the other
 abbrev pub Step : ℕ → State → Answer → State → Type 0
-Step client old answer new = (IsAside old answer × (new ≡ old))
+Step client old answer new = (IsAside IsOutOfMemory old answer × (new ≡ old))
     ⊎ ((entry : Option Entry) × Serves old client answer entry × (new ≡ with_entry old entry))
 
 -- the client is given these answers, one after another

@@ -1,9 +1,9 @@
 -- Which texts are words, and which are numbers?
-use Rattle.std.specs.Prelude.{◌≡◌, ℕ, ◌≤◌, ◌⊎◌, ℤ, pos, List, [], ◌∷◌, length, slice_index, codes, Bool, true, false, ◌||◌, ◌&&◌, nat_le, ◌==◌}
+use Rattle.std.specs.Prelude.{◌≡◌, ℕ, ◌≤◌, List, [], ◌∷◌, length, slice_index, take, drop, codes, Bool, true, false, ◌||◌, ◌&&◌, nat_le, ◌==◌, Option, Some, None, if◌then◌else◌}
 use Rattle.std.specs.List.{list_all, list_any}
-use Rattle.std.specs.Str.{str_eq_ignore_ascii_case}
-use Rattle.std.specs.Str.Parse.{IsNumeral, digits_value}
-use Rattle.std.proofs.Math.IntN.{neg_ℤ}
+use Rattle.std.specs.Str.{str_eq_ignore_ascii_case, all_ascii_digits}
+use Rattle.std.specs.Option.{option_and_then}
+use Rattle.std.specs.Str.Parse.{digits_value}
 
 abbrev pub is_letter : ℕ → Bool
 is_letter byte = (nat_le 65 byte && nat_le byte 90) || (nat_le 97 byte && nat_le byte 122) || (byte == 95)
@@ -28,10 +28,22 @@ pub record IsWord (text : List ℕ) : Type 0 where
   pub short : length text ≤ 255
   pub free : is_reserved text ≡ false
 
--- an optional minus and 1 to 18 digits
-pub record IsNumber (text : List ℕ) (number : ℤ) : Type 0 where
-  pub digits : List ℕ
-  pub numeral : IsNumeral 10 digits
-  pub short : length digits ≤ 18
-  pub spelled : ((text ≡ digits) × (number ≡ pos (digits_value 10 digits)))
-      ⊎ ((text ≡ 45 ∷ digits) × (number ≡ neg_ℤ (pos (digits_value 10 digits))))
+-- what stands behind these bytes at the beginning of a text, which may have small letters, capitals or both there
+unfoldable pub behind_word : List ℕ → List ℕ → Option (List ℕ)
+behind_word word text = if str_eq_ignore_ascii_case (take (length word) text) word then Some (drop (length word) text) else None
+
+-- the number that 1 to so many digits write
+unfoldable pub number_in : ℕ → List ℕ → Option ℕ
+number_in most text = if (nat_le 1 (length text) && nat_le (length text) most) && all_ascii_digits text then Some (digits_value 10 text) else None
+
+-- how many lines the BATCH takes that the line begins: BATCH, one space and 1 to 9 digits
+abbrev pub batch_count : List ℕ → Option ℕ
+batch_count line = option_and_then (number_in 9) (behind_word (codes "BATCH ") line)
+
+-- which number the line asks for: AFTER, one space and 1 to 19 digits
+abbrev pub after_number : List ℕ → Option ℕ
+after_number line = option_and_then (number_in 19) (behind_word (codes "AFTER ") line)
+
+-- the line of line protocol in an INSERT: what stands behind INSERT and one space
+abbrev pub inserted_line : List ℕ → Option (List ℕ)
+inserted_line line = behind_word (codes "INSERT ") line

@@ -1,12 +1,19 @@
-//! What a session means, as definitions: how bytes are cut into requests, what a request says, what the machine of
+//! What a session means, as definitions: how bytes are cut into requests, what a request asks for, what the machine of
 //! one thread replies, how a reply is spelled, and when one history explains what all clients were told.
 #![tactic(auto)]
 
 mod statement;
 
-ghost use Rattle.session_model.specs.Laws.{RepliesAreReadBack, RunsAreExplained};
+ghost use Rattle.session_model.specs.Laws.{RepliesAreReadBack, RequestsMeanOne, RunsAreExplained};
 
-pub use statement::Statement;
+pub use statement::{Refusal, Statement};
+
+/// A request that took a moment asks for one thing.
+pub fn requests_mean_one()
+    ensures { RequestsMeanOne }
+{
+    line_protocol::one_reading();
+}
 
 /// What a client is answered by the machine, one request after another, has a history that explains it.
 pub fn runs_are_explained()
@@ -16,4 +23,6 @@ pub fn runs_are_explained()
 /// No two lists of replies have one text, so a transcript tells its replies.
 pub fn replies_are_read_back()
     ensures { RepliesAreReadBack }
-{}
+{
+    requests_mean_one();
+}

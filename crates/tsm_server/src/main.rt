@@ -1,9 +1,10 @@
-//! The program: `tsmd mem IN OUT` serves the requests of the file IN over a map in memory, and writes the replies to the
+//! The program: `tsmd mem IN OUT` serves the requests of the file IN over a store in memory, and writes the replies to the
 //! file OUT.
 #![tactic(auto)]
 
 mod gate;
 mod host_desk;
+mod memory;
 mod program;
 mod status;
 #[cfg(test)]
@@ -12,9 +13,9 @@ mod words;
 
 pub use gate::OpenGate;
 pub use host_desk::{HostDesk, Input, Output};
+pub use memory::mem;
 pub use program::tsmd;
 use session_io::{HostSink, Word};
-pub use session_loop::mem;
 pub use status::Status;
 use std::alloc::AllocError;
 use std::env;

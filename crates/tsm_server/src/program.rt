@@ -9,14 +9,14 @@ ghost use Rattle.tsm_server.specs.Printing.{TakesFront, code_of, line_of};
 ghost use Rattle.tsm_server.specs.Outcomes.{ServedOne, ClosesOne, EndedByFault, EndedByMemory, HasCause, WillServe, devices, status_by};
 ghost use Rattle.tsm_server.specs.declared.status.Status.{Status as Ending};
 
+use crate::memory::mem;
 use crate::status::Status;
 use crate::words::mem_names;
 use session_io::{Client, Desk, End, Gate, Sink, Word};
-use session_loop::mem;
 use shard_disk::Trouble;
 use std::alloc::Global;
 
-/// Does what the words ask for: `mem IN OUT` serves one client over a map in memory, from the input IN to the output
+/// Does what the words ask for: `mem IN OUT` serves one client over a store in memory, from the input IN to the output
 /// OUT. Prints the line of the status that it answers; a refusal of `out` changes no status. `rt` and `gate` stand for
 /// the system and for places where tests may hold a session; no command needs them yet.
 pub fn tsmd<R, K: Desk, G: Gate>(

@@ -6,6 +6,7 @@ mod short;
 use crate::{OpenGate, tsmd};
 use session_io::{Client, Closed, Desk, MemClock, MemDesk, MemSink, MemSource, Word};
 use std::alloc::{AllocError, Global};
+use tsdb_types::Time;
 
 /// What a run answered, printed and wrote to its client.
 #[derive(Drop)]
@@ -22,13 +23,24 @@ fn desk(
     failing_reads: &[u64],
     failing_writes: &[u64],
 ) -> Result<MemDesk, AllocError> {
+    desk_at(alloc, input, failing_reads, failing_writes, Vec::new(alloc))
+}
+
+/// The same, where the client's clock tells these moments and then the last of them.
+fn desk_at(
+    alloc: Global,
+    input: &str,
+    failing_reads: &[u64],
+    failing_writes: &[u64],
+    moments: Vec<Time>,
+) -> Result<MemDesk, AllocError> {
     let client = Client {
         source: MemSource::new(
             input.as_bytes().to_vec(alloc)?,
             failing_reads.to_vec(alloc)?,
         ),
         sink: MemSink::new(alloc, failing_writes.to_vec(alloc)?),
-        clock: MemClock::new(Vec::new(alloc)),
+        clock: MemClock::new(moments),
     };
     let names = (
         String::from_str(alloc, "in")?,

@@ -1,0 +1,30 @@
+-- The batch was accepted, or refused by a cause.
+use Rattle.std.proofs.Common.{ℕ, sym, ◌∙◌, subst, arith, Option}
+use Rattle.session_model.specs.declared.statement.Statement.TheVariants.{Write}
+use Rattle.session_loop.specs.Steps.{Stored, Serves, stored}
+use Rattle.session_loop.proofs.StepLemmas.{accepted_step}
+use Rattle.session_loop.proofs.ServingLemmas.{refused_serves}
+use Rattle.session_loop.proofs.serve.write.Goals as goal
+
+pub returns-in-Ok-clause-served : goal.returns-in-Ok-clause-served
+returns-in-Ok-clause-served g c =
+    let old : Stored = stored g.S.Store.told g.S.Store.health c.args.store.now in
+    let new : Stored = stored g.S.Store.told g.S.Store.health c.write.new.self in
+    record {
+      reply = _;
+      spelled = c.accepted.ensures;
+      step = λ request moment means. accepted_step old new request moment c.args.batch.now c.in-Ok.number (omega arith) means c.in-Ok.ensures.ok c.write.ensures.kept c.write.ensures.ages;
+    }
+
+pub returns-in-Err-clause-served : goal.returns-in-Err-clause-served
+returns-in-Err-clause-served g c =
+    let old : Stored = stored g.S.Store.told g.S.Store.health c.args.store.now in
+    let new : Stored = stored g.S.Store.told g.S.Store.health c.write.new.self in
+    subst (λ (n : Option ℕ). Serves old (Write c.args.batch.now) c.refused.new.text n new) (sym c.refused.ensures.number)
+    (refused_serves old new c.args.batch.now c.refused.new.text c.in-Err.fault c.refused.ensures.text c.refused.ensures.readable c.write.ensures.kept c.in-Err.ensures.err c.write.ensures.ages c.in-Err.ensures.refused)
+
+pub returns-in-Ok-clause-none_out : goal.returns-in-Ok-clause-none_out
+returns-in-Ok-clause-none_out g c = c.in-Ok.ensures.ok.out ∙ c.requires.none_out
+
+pub returns-in-Err-clause-none_out : goal.returns-in-Err-clause-none_out
+returns-in-Err-clause-none_out g c = c.in-Err.ensures.err.out ∙ c.requires.none_out

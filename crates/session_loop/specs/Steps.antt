@@ -1,0 +1,89 @@
+-- What does one answer of a session do with its store?
+use Rattle.std.specs.Prelude.{◌≡◌, ℕ, ◌+◌, ◌≤◌, ℤ, false, IsTrue, List, [], ◌∷◌, ◌++◌, length, Option, IsSome, IsSomeAnd, Result, Ok, Err}
+use Rattle.std.specs.declared.alloc.AllocError.{AllocError}
+use Rattle.tsdb_types.specs.declared.point.Point.{Point}
+use Rattle.shard_disk.specs.Health.{Health, Ages, Rose}
+use Rattle.point_model.specs.Histories.{Entry}
+use Rattle.store_trait.specs.Told.{Told, Keeps}
+use Rattle.store_trait.specs.Calls.Write.{PassesCache, PassesSeries}
+use Rattle.session_model.specs.declared.statement.Statement.{Statement}
+use Rattle.session_model.specs.declared.statement.Statement.TheVariants.{Write}
+use Rattle.session_model.specs.Lines.{Request}
+use Rattle.session_model.specs.Requests.{Means}
+use Rattle.session_model.specs.Replies.{Reply, text, accepted}
+use Rattle.session_model.specs.Replies.Reply.{Accepted, Found, Reached, NotReached, NotBuilt, Refused, TypeConflict, HistoryFull, OutOfMemory, DeviceFault, Damaged, CacheFull, SeriesFull}
+use Rattle.session_model.specs.Readable.{IsReadable}
+use Rattle.session_model.specs.Machine.{Answer}
+use Rattle.session_model.specs.Explained.{IsGivenAt}
+
+-- what a store tells at a moment, and its health
+pub record Stored : Type 0 where
+  pub told : Told
+  pub health : Health
+
+abbrev pub stored : {S : Type 0} → (S → Told) → (S → Health) → S → Stored
+stored told health store = record { told = told store; health = health store }
+
+-- what the store told, when its history was this
+abbrev pub told_at : Told → List Entry → Told
+told_at told history = record told { history = history }
+
+-- Why a store gave a reply that is none of the machine's, behind these entries. That a device failed is told by the count of
+-- the store, and want of memory has no cause.
+abbrev pub ReplyHasCause : Told → List Entry → Answer → Reply → Type 0
+ReplyHasCause told before answer OutOfMemory = Unit {0}
+ReplyHasCause told before answer DeviceFault = Unit {0}
+ReplyHasCause told before answer (Damaged file offset) = IsSome told.limits × (told.tells ≡ false)
+ReplyHasCause told before answer (CacheFull held) = (points : List Point) × Means answer.request answer.moment (Write points)
+    × IsSomeAnd told.limits (PassesCache points held (told_at told before))
+ReplyHasCause told before answer (SeriesFull held) = (points : List Point) × Means answer.request answer.moment (Write points)
+    × IsSomeAnd told.limits (PassesSeries points held (told_at told before))
+ReplyHasCause told before answer (Accepted number) = ⊥
+ReplyHasCause told before answer (Found number tables) = ⊥
+ReplyHasCause told before answer (Reached number) = ⊥
+ReplyHasCause told before answer (NotReached number) = ⊥
+ReplyHasCause told before answer NotBuilt = ⊥
+ReplyHasCause told before answer (Refused refusal) = ⊥
+ReplyHasCause told before answer (TypeConflict field held number) = ⊥
+ReplyHasCause told before answer HistoryFull = ⊥
+
+abbrev pub HasCause : Told → List Entry → Answer → Type 0
+HasCause told before answer = ReplyHasCause told before answer answer.reply
+
+-- the answer takes its place in the history behind what the store knew before
+pub record Step (old : Stored) (answer : Answer) (new : Stored) : Type 0 where
+  pub kept : Keeps old.told new.told
+  pub out : new.told.out ≡ old.told.out
+  pub own : new.told.own ≡ old.told.own ++ accepted answer.reply
+  pub place : ℕ
+  pub from : length old.told.history ≤ place
+  pub to : place + length (accepted answer.reply) ≤ length new.told.history
+  pub given : IsTrue new.told.tells → IsGivenAt (HasCause new.told) new.told.start new.told.history new.told.client answer place
+  pub readable : IsReadable answer.reply
+  pub ages : Ages old.health new.health
+  pub fault : answer.reply ≡ DeviceFault → Rose old.health.faults new.health.faults
+
+-- these answers, one after another
+abbrev pub Steps : Stored → List Answer → Stored → Type 0
+Steps old [] new = new ≡ old
+Steps old (answer ∷ answers) new = (mid : Stored) × Step old answer mid × Steps mid answers new
+
+-- the answer to a request that took this moment, for which the store told this number, if it told one
+abbrev pub answer_to : Request → ℤ → Reply → Option ℕ → Answer
+answer_to request moment reply number = record { request = request; moment = moment; reply = reply; number = number }
+
+-- the bytes are a reply to every request that asks for this
+pub record Serves (old : Stored) (asks : Statement) (bytes : List ℕ) (number : Option ℕ) (new : Stored) : Type 0 where
+  pub reply : Reply
+  pub spelled : bytes ≡ text reply
+  pub step : (request : Request) (moment : ℤ) → Means request moment asks → Step old (answer_to request moment reply number) new
+
+-- the same of what was read of a request; where there was no memory to read it, the bytes are a reply to every request
+abbrev pub ServesRead : Stored → Result Statement AllocError → List ℕ → Option ℕ → Stored → Type 0
+ServesRead old (Ok asks) bytes number new = Serves old asks bytes number new
+ServesRead old (Err error) bytes number new = (reply : Reply) × (bytes ≡ text reply) × ((request : Request) (moment : ℤ) → Step old (answer_to request moment reply number) new)
+
+-- what was read of a request is what it asks for
+abbrev pub ReadMeans : Result Statement AllocError → Request → ℤ → Type 0
+ReadMeans (Ok asks) request moment = Means request moment asks
+ReadMeans (Err error) request moment = Unit {0}
