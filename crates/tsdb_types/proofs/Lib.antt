@@ -1,5 +1,7 @@
-mod EscapeLemmas
-mod KeyLemmas
-mod ReadingLemmas
-mod SeriesLemmas
-mod TagLemmas
+pub mod EscapeLemmas
+pub mod KeyLemmas
+pub mod ReadingLemmas
+pub mod SeriesLemmas
+pub mod SpelledLemmas
+pub mod SpelledTagLemmas
+pub mod TagLemmas

@@ -4,15 +4,11 @@ use Rattle.std.proofs.lemmas.Bool.{false≢true}
 use Rattle.std.proofs.lemmas.List.{append_assoc}
 use Rattle.tsdb_types.specs.Names.{IsName}
 use Rattle.tsdb_types.specs.Series.{escaped, measurement_ends_at, tag_ends_at, tags_text, ReadsOnce}
+use Rattle.tsdb_types.specs.Spelled.{EndsName}
 use Rattle.tsdb_types.specs.declared.tag.Tag.{Tag}
 use Rattle.tsdb_types.proofs.EscapeLemmas.{decided, escaped-picked, escaped-left}
 
--- no byte, or one at which a name ends
-abbrev Stops : (ℕ → Bool) → List ℕ → Type 0
-Stops picks [] = Unit {0}
-Stops picks (byte ∷ text) = picks byte ≡ true
-
-abbrev IsClosed : List ℕ → Type 0
+abbrev pub IsClosed : List ℕ → Type 0
 IsClosed name = get_or name (length name - 1) 0 ≢ 92
 
 closed-tail : (b : ℕ) (name : List ℕ) → IsClosed (b ∷ name) → IsClosed name
@@ -24,11 +20,11 @@ closed-tail b (c ∷ m) h = λ f.
 
 module _ (picks : ℕ → Bool) (slash : picks 92 ≡ false) where
   -- a name begins with no byte at which it would end
-  never : (b : ℕ) (name rest stop : List ℕ) → Stops picks stop → stop ≡ escaped picks (b ∷ name) ++ rest → ⊥
+  never : (b : ℕ) (name rest stop : List ℕ) → EndsName picks stop → stop ≡ escaped picks (b ∷ name) ++ rest → ⊥
   never b name rest stop s e =
       ⊎_elim
-      (λ (p : picks b ≡ true). false≢true (sym slash ∙ subst (λ (t : List ℕ). Stops picks t) (e ∙ ap (λ (t : List ℕ). t ++ rest) (escaped-picked picks b name p)) s))
-      (λ (p : picks b ≡ false). false≢true (sym p ∙ subst (λ (t : List ℕ). Stops picks t) (e ∙ ap (λ (t : List ℕ). t ++ rest) (escaped-left picks b name p)) s))
+      (λ (p : picks b ≡ true). false≢true (sym slash ∙ subst (λ (t : List ℕ). EndsName picks t) (e ∙ ap (λ (t : List ℕ). t ++ rest) (escaped-picked picks b name p)) s))
+      (λ (p : picks b ≡ false). false≢true (sym p ∙ subst (λ (t : List ℕ). EndsName picks t) (e ∙ ap (λ (t : List ℕ). t ++ rest) (escaped-left picks b name p)) s))
       (decided (picks b))
 
   -- a name whose first byte is a backslash has more, which no backslash stands for
@@ -44,7 +40,7 @@ module _ (picks : ℕ → Bool) (slash : picks 92 ≡ false) where
       slashed other more c b (escaped picks name ++ rest) closed (ap (λ (t : List ℕ). get_or t 0 0) same) p (ap (λ (t : List ℕ). drop 1 t) same)
 
   -- a text is that of one name, up to where the name stops
-  pub one_name : (name other rest more : List ℕ) → IsClosed name → IsClosed other → Stops picks rest → Stops picks more → escaped picks name ++ rest ≡ escaped picks other ++ more → (name ≡ other) × (rest ≡ more)
+  pub one_name : (name other rest more : List ℕ) → IsClosed name → IsClosed other → EndsName picks rest → EndsName picks more → escaped picks name ++ rest ≡ escaped picks other ++ more → (name ≡ other) × (rest ≡ more)
   one_name [] [] rest more n o s t e = (refl, e)
   one_name [] (c ∷ other) rest more n o s t e = absurd (never c other more rest s e)
   one_name (b ∷ name) [] rest more n o s t e = absurd (never b name rest more t (sym e))
@@ -72,31 +68,31 @@ module _ (picks : ℕ → Bool) (slash : picks 92 ≡ false) where
       (decided (picks c)))
       (decided (picks b))
 
-abbrev Named : List Tag → Type 0
+abbrev pub Named : List Tag → Type 0
 Named tags = All (λ tag. IsName tag.key × IsName tag.value) tags
 
-named-first : (tag : Tag) (tags : List Tag) → Named (tag ∷ tags) → IsName tag.key × IsName tag.value
+pub named-first : (tag : Tag) (tags : List Tag) → Named (tag ∷ tags) → IsName tag.key × IsName tag.value
 named-first tag tags h = h 0 tag (omega arith)
 
-named-rest : (tag : Tag) (tags : List Tag) → Named (tag ∷ tags) → Named tags
+pub named-rest : (tag : Tag) (tags : List Tag) → Named (tag ∷ tags) → Named tags
 named-rest tag tags h = λ k d l. h (suc k) d (omega arith)
 
 -- the key, and what stands behind it
-tags_text-shape : (tag : Tag) (tags : List Tag) → tags_text (tag ∷ tags) ≡ 44 ∷ (escaped tag_ends_at tag.key ++ 61 ∷ (escaped tag_ends_at tag.value ++ tags_text tags))
+pub tags_text-shape : (tag : Tag) (tags : List Tag) → tags_text (tag ∷ tags) ≡ 44 ∷ (escaped tag_ends_at tag.key ++ 61 ∷ (escaped tag_ends_at tag.value ++ tags_text tags))
 tags_text-shape tag tags = ap (λ (t : List ℕ). 44 ∷ t) (append_assoc (escaped tag_ends_at tag.key) (61 ∷ escaped tag_ends_at tag.value) (tags_text tags))
 
-tags-stop : (tags : List Tag) → Stops tag_ends_at (tags_text tags)
+pub tags-stop : (tags : List Tag) → EndsName tag_ends_at (tags_text tags)
 tags-stop [] = tt
 tags-stop (tag ∷ tags) = refl
 
-measurement-stops : (tags : List Tag) → Stops measurement_ends_at (tags_text tags)
+pub measurement-stops : (tags : List Tag) → EndsName measurement_ends_at (tags_text tags)
 measurement-stops [] = tt
 measurement-stops (tag ∷ tags) = refl
 
 abbrev tag_of : List ℕ → List ℕ → Tag
 tag_of key value = record { key = key; value = value }
 
-nil≢cons : (b : ℕ) (text : List ℕ) → [] ≡ b ∷ text → ⊥
+pub nil≢cons : (b : ℕ) (text : List ℕ) → [] ≡ b ∷ text → ⊥
 nil≢cons b text e = cc
 
 one_list : (tags others : List Tag) → Named tags → Named others → tags_text tags ≡ tags_text others → tags ≡ others

@@ -2,4 +2,5 @@ pub mod Keys
 pub mod Moments
 pub mod Names
 pub mod Series
+pub mod Spelled
 pub mod Values

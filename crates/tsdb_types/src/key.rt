@@ -72,7 +72,10 @@ pub fn split(bytes: &[u8]) -> Option<usize>
     ensures found { IfSome result (IsFirstMark bytes.now) }
     ensures none { IfNone result ((at : ℕ) → ¬ MarkAt bytes.now at) }
 {
-    for at in 0..bytes.len() {
+    for (at, byte) in bytes.iter().enumerate() {
+        if *byte != b'#' {
+            continue;
+        }
         if is_marked(bytes, at) {
             return Some(at);
         }

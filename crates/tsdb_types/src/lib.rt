@@ -7,6 +7,7 @@ mod key;
 mod name;
 mod point;
 mod series;
+mod spelled;
 mod tag;
 #[cfg(test)]
 mod tests;
@@ -19,6 +20,7 @@ pub use key::{KeyFault, composite, key_fault, split};
 pub use name::{Name, NameFault};
 pub use point::{Cell, Point};
 pub use series::{SeriesFault, SeriesKey, reads_once};
+pub use spelled::compare_spelled;
 pub use tag::{Tag, Tags};
 pub use time::Time;
 pub use value::{Kind, Value};

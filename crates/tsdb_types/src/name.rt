@@ -52,6 +52,14 @@ impl Name {
         }
     }
 
+    /// The name that this text is.
+    pub fn from_string(text: String) -> Name
+        requires name { IsName (string_bytes text) }
+        ensures text { result ≡ string_bytes text }
+    {
+        Name { text }
+    }
+
     pub fn as_str(&self) -> &str
         ensures text { result.now ≡ self.now }
         ensures name { IsName result.now }

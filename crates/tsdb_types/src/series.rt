@@ -1,4 +1,4 @@
-ghost use Rattle.std.specs.Prelude.{◌≡◌, ◌≢◌, ◌↔◌, ℕ, ◌+◌, ◌<◌, false, List, [], ◌∷◌, ◌++◌, string_bytes, Some, IfSome, IfNone, IfOk, OnOk, IsErrOf, IsTrue, All, nat_eq, refl};
+ghost use Rattle.std.specs.Prelude.{◌≡◌, ◌≢◌, ◌↔◌, ℕ, ◌+◌, ◌<◌, false, List, [], ◌∷◌, ◌++◌, string_bytes, Some, IsSome, IfSome, IfNone, IfOk, OnOk, IsErrOf, IsTrue, All, nat_eq, refl};
 ghost use Rattle.std.specs.Str.{IsUtf8};
 ghost use Rattle.std.specs.Ordering.{nat_cmp};
 ghost use Rattle.std.specs.declared.cmp.Ordering.TheVariants.{Less};
@@ -8,15 +8,18 @@ ghost use Rattle.tsdb_types.specs.Names.{IsName};
 ghost use Rattle.tsdb_types.specs.Series.{is_one_of, escaped, measurement_ends_at, measurement_text, tags_text, series_text, Ascend, KeysDiffer, IsKeyOf, IsSeriesText, ReadsOnce, is_key_with, is_series_of};
 ghost use Rattle.tsdb_types.specs.declared.series.SeriesFault.TheVariants as series_fault;
 
+use crate::spelled::is_series_text;
 use crate::{Name, Tag, Tags};
 use std::alloc::{AllocError, AllocFailed, Global};
 use std::cmp::Ordering;
 use std::marker::Model;
 use thiserror::Error;
 
-const MEASUREMENT_ENDS: &[u8] = b", ";
+// The bytes before which a key has a backslash in a measurement.
+pub const MEASUREMENT_ENDS: &[u8] = b", ";
 
-const TAG_ENDS: &[u8] = b",= ";
+// The same in the key and the value of a tag.
+pub const TAG_ENDS: &[u8] = b",= ";
 
 /// The key of a series, as its escaped text: the measurement, with a backslash before each comma and space, then for
 /// each tag in ascending order of key a comma, the key, an equals sign and the value, with a backslash before each comma,
@@ -68,6 +71,26 @@ impl SeriesKey {
         }
         let text = spelled(alloc, &measurement, tags.as_slice())?;
         Ok(SeriesKey { text })
+    }
+
+    /// The key with this text; `None` exactly where no key has it.
+    pub fn from_text(alloc: Global, text: &str) -> Result<Option<SeriesKey>, AllocError>
+        ensures found { IfOk result (λ found. IfSome found (λ key. key ≡ text.now)) }
+        ensures exact { IfOk result (λ found. IsSome found ↔ IsSeriesText text.now) }
+    {
+        if !is_series_text(text.as_bytes()) {
+            return Ok(None);
+        }
+        let text = String::from_str(alloc, text)?;
+        Ok(Some(SeriesKey { text }))
+    }
+
+    /// The key that this text is.
+    pub fn from_string(text: String) -> SeriesKey
+        requires series { IsSeriesText (string_bytes text) }
+        ensures text { result ≡ string_bytes text }
+    {
+        SeriesKey { text }
     }
 
     /// The series without tags of a measurement whose text needs no escape: it holds no comma and no space.

@@ -39,6 +39,51 @@ fn tags_stand_in_order_and_escaped(rt: HostRuntime) {
 }
 
 #[test]
+fn a_key_is_read_back_from_its_text(rt: HostRuntime) {
+    let texts = [
+        "cpu",
+        "cpu,host=a",
+        "my\\ cpu\\,x,a=1,b=2",
+        "cpu,a\\=b=c\\\\d,b=\\,",
+        "c=p\\u\\=,h\u{e9}=\u{fc}",
+        "cpu,a\\ b=1,a!=2",
+    ];
+    for text in texts {
+        let key = SeriesKey::from_text(rt.alloc(), text)
+            .expect(&rt, "room")
+            .expect(&rt, "a key");
+        assert!(&rt; key.text() == text);
+    }
+}
+
+#[test]
+fn a_text_that_is_no_key_is_none(rt: HostRuntime) {
+    let texts = [
+        "",
+        ",a=1",
+        "cpu ",
+        "cpu\\",
+        "cpu,",
+        "cpu,a",
+        "cpu,a=",
+        "cpu,=1",
+        "cpu,a=1=2",
+        "cpu,a=1,",
+        "cpu,b=1,a=2",
+        "cpu,a=1,a=2",
+        "cpu,a=b c",
+        "cpu,a=1\n",
+        "cpu\\\n",
+        "cpu,a=1\\",
+        "cpu,a!=1,a\\ b=2",
+    ];
+    for text in texts {
+        let key = SeriesKey::from_text(rt.alloc(), text).expect(&rt, "room");
+        assert!(&rt; key.is_none());
+    }
+}
+
+#[test]
 fn equal_keys_of_tags_are_refused(rt: HostRuntime) {
     let given = tags(
         &rt,
