@@ -5,7 +5,7 @@ ghost use Rattle.value_codec.specs.Coding.{IsInRange};
 ghost use Rattle.block_codec.specs.Blocks.{IsBlock, HasBadKind, times_of, values_of};
 
 use crate::kind::kind_with;
-use std::alloc::{AllocError, Global};
+use std::alloc::Global;
 use tsdb_types::{BlockFault, Time, Value};
 use word_codec::read_uvarint;
 
@@ -28,8 +28,7 @@ pub fn decode_block(alloc: Global, bytes: &[u8]) -> Result<Vec<(Time, Value)>, B
         return Err(BlockFault::BadBlock);
     };
     let times = time_codec::decode(alloc, times)?;
-    let values = value_codec::decode(alloc, kind, values, times.len())?;
-    let points = joined(alloc, times.as_slice(), values.as_slice())?;
+    let points = value_codec::decode_points(alloc, kind, values, times.as_slice())?;
     Ok(points)
 }
 
@@ -46,17 +45,4 @@ fn split_parts(bytes: &[u8]) -> Option<(&[u8], &[u8])>
         return None;
     }
     Some(bytes.split_at(len).1.split_at(size as usize))
-}
-
-/// Times and values, pair by pair.
-fn joined(alloc: Global, times: &[Time], values: &[Value]) -> Result<Vec<(Time, Value)>, AllocError>
-    requires { length times.now ≡ length values.now }
-    ensures times { IfOk result (λ points. times_of points.items ≡ times.now) }
-    ensures values { IfOk result (λ points. values_of points.items ≡ values.now) }
-{
-    let mut points = Vec::with_capacity(alloc, times.len())?;
-    for (time, value) in times.iter().zip(values) {
-        points.push((*time, *value))?;
-    }
-    Ok(points)
 }

@@ -18,10 +18,10 @@ sum_cons first rest = sum_by_from (λ n. n) (0 + first) rest ∙ omega (arith, s
 -- ---- one step
 
 -- a moment before one that is further behind
-between : (time : ℤ) (near far : ℕ) → IsMoment time → near ≤ far → IsMoment (time +ℤ pos far) → IsMoment (time +ℤ pos near)
+pub between : (time : ℤ) (near far : ℕ) → IsMoment time → near ≤ far → IsMoment (time +ℤ pos far) → IsMoment (time +ℤ pos near)
 between time near far moment within last = record { least = omega (arith, ints, moment.least); greatest = omega (arith, ints, last.greatest) }
 
-further : (time : ℤ) (near far : ℕ) → (time +ℤ pos near) +ℤ pos far ≡ time +ℤ pos (near + far)
+pub further : (time : ℤ) (near far : ℕ) → (time +ℤ pos near) +ℤ pos far ≡ time +ℤ pos (near + far)
 further time near far = omega (arith, ints)
 
 pub gap_fits : (time : ℤ) (gap : ℕ) → IsMoment time → IsMoment (time +ℤ pos gap) → gap < 2 ^ 64
@@ -164,6 +164,21 @@ all_behind times all last at gaps end none done =
     ∙ ap (λ gs. take at times ++ times_behind last gs) (sym none)
     ∙ done
 
+-- what is no way behind
+pub none_behind : (time : ℤ) → time +ℤ pos 0 ≡ time
+none_behind time = omega (arith, ints)
+
+pub begun_behind : (times : List ℤ) (first : ℤ) (gaps : List ℕ) → take 1 times ≡ first ∷ [] → take 1 times ++ times_behind (first +ℤ pos 0) gaps ≡ first ∷ times_behind first gaps
+begun_behind times first gaps begun = ap (λ ts. ts ++ times_behind (first +ℤ pos 0) gaps) begun ∙ ap (λ (t : ℤ). first ∷ times_behind t gaps) (none_behind first)
+
+pub lead_more : (first : ℤ) (total gap : ℕ) (gaps rest : List ℕ) → gaps ≡ gap ∷ rest → Lead (first +ℤ pos total) gaps → IsMoment (first +ℤ pos (total + gap)) × Lead (first +ℤ pos (total + gap)) rest
+lead_more first total gap gaps rest are lead = lead_next (first +ℤ pos total) (first +ℤ pos (total + gap)) gap gaps rest are (sym (further first total gap)) lead
+
+pub behind_more : (times all : List ℤ) (first next : ℤ) (total gap at : ℕ) (gaps rest : List ℕ) → at < length times → gaps ≡ gap ∷ rest → next ≡ first +ℤ pos (total + gap) → take at times ++ times_behind (first +ℤ pos total) gaps ≡ all → take (at + 1) (set times at next) ++ times_behind (first +ℤ pos (total + gap)) rest ≡ all
+behind_more times all first next total gap at gaps rest below are is done =
+    subst (λ (t : ℤ). take (at + 1) (set times at next) ++ times_behind t rest ≡ all) is
+    (one_behind times all (first +ℤ pos total) next gap at gaps rest below are (is ∙ sym (further first total gap)) done)
+
 -- the steps from a place on
 pub gaps_more : (unit : ℕ) (steps : List ℕ) (at : ℕ) → at < length steps → map (λ step. step * unit) (drop at steps) ≡ (get_or steps at 0 * unit) ∷ map (λ step. step * unit) (drop (at + 1) steps)
 gaps_more unit steps at below = ap (map (λ step. step * unit)) (drop_more steps at 0 below)
@@ -183,6 +198,18 @@ map-replicate (suc count) step unit = ap (λ gs. (step * unit) ∷ gs) (map-repl
 
 pub even_some : (size gap : ℕ) → 0 < size → replicate size gap ≡ gap ∷ replicate (size - 1) gap
 even_some size gap some = let more : size ≡ suc (size - 1) = omega arith in ap (λ (n : ℕ). replicate n gap) more
+
+-- ---- early times that are evenly apart
+
+pub even_split : (left distance : ℕ) → 0 < left → left * distance ≡ distance + (left - 1) * distance
+even_split zero distance some = absurd (omega arith)
+even_split (suc left) distance some = let same : suc left - 1 ≡ left = omega arith in rw same (omega arith)
+
+pub even_behind : (before distance left : ℕ) (next : ℤ) → 0 < left → next ≡ pos (before + distance)
+    → times_behind (pos before) (replicate left distance) ≡ next ∷ times_behind (pos (before + distance)) (replicate (left - 1) distance)
+even_behind before distance left next some is =
+    ap (times_behind (pos before)) (even_some left distance some)
+    ∙ ap (λ (t : ℤ). t ∷ times_behind (pos (before + distance)) (replicate (left - 1) distance)) (sym is)
 
 -- a list that was written over one of its length
 pub written_back : (len : ℕ) (first : ℤ) (gaps : List ℕ) (new old : List ℤ) → len ≡ length old → length old ≡ length gaps + 1 → new ≡ first ∷ times_behind first gaps → take len (new ++ drop (length new) old) ≡ new

@@ -3,3 +3,4 @@ pub mod ReadingLemmas
 pub mod ScaleLemmas
 pub mod TimesLemmas
 pub mod WordsLemmas
+pub mod EvenlyLemmas

@@ -10,7 +10,7 @@ use Rattle.std.specs.Int.{to_be_bytes, cast_unsigned, w64}
 use Rattle.std.proofs.lemmas.Bool.{eqb-true, ltb-true, lt-ltb, cond-true, cond-false, cases_Bool}
 use Rattle.std.proofs.Math.Nat.{div-lt_iff_lt-mul}
 use Rattle.std.specs.Cmp.{both_ways}
-use Rattle.std.proofs.lemmas.List.{drop_more, length-map, get_or-map}
+use Rattle.std.proofs.lemmas.List.{drop_more, drop_all, length-map, get_or-map}
 use Rattle.std.proofs.lemmas.List.Elements.{All-head, All-tail, All-nil, All-cons}
 use Rattle.std.proofs.lemmas.Int.{ints}
 use Rattle.tsdb_types.specs.Moments.{IsMoment}
@@ -29,9 +29,33 @@ between_more found later index before time gap all lt is gap_is so_far =
     ∙ ap (λ rest. found ++ differences (before ∷ rest)) (ap (λ t. t ∷ drop (index + 1) later) is ∙ sym (drop_more later index time lt))
     ∙ so_far
 
+-- one more difference is asked for
+pub even_more : (even : Bool) (gap difference : ℕ) (later : List ℤ) (index : ℕ) (before time : ℤ) (all : Bool) → index < length later → time ≡ get_or later index time → gap ≡ unsigned_abs (time -ℤ before)
+    → (even && list_all (λ other. eqb other difference) (differences (before ∷ drop index later))) ≡ all
+    → ((even && eqb gap difference) && list_all (λ other. eqb other difference) (differences (time ∷ drop (index + 1) later))) ≡ all
+even_more even gap difference later index before time all lt is gap_is so_far =
+    together even (eqb gap difference) (list_all (λ other. eqb other difference) (differences (time ∷ drop (index + 1) later)))
+    ∙ ap (λ g. even && (eqb g difference && list_all (λ other. eqb other difference) (differences (time ∷ drop (index + 1) later)))) gap_is
+    ∙ ap (λ rest. even && list_all (λ other. eqb other difference) (differences (before ∷ rest))) (ap (λ t. t ∷ drop (index + 1) later) is ∙ sym (drop_more later index time lt))
+    ∙ so_far
+  where
+    together : (a b c : Bool) → ((a && b) && c) ≡ (a && (b && c))
+    together true b c = refl
+    together false b c = refl
+
+-- no time is left to ask for
+pub even_all : (even : Bool) (difference : ℕ) (later : List ℤ) (index : ℕ) (before : ℤ) (all : Bool) → length later ≤ index
+    → (even && list_all (λ other. eqb other difference) (differences (before ∷ drop index later))) ≡ all → even ≡ all
+even_all even difference later index before all end so_far =
+    sym (ap (λ rest. even && list_all (λ other. eqb other difference) (differences (before ∷ rest))) (drop_all index later end) ∙ whole even) ∙ so_far
+  where
+    whole : (b : Bool) → (b && true) ≡ b
+    whole true = refl
+    whole false = refl
+
 -- ---- the form
 
-length-differences : (first : ℤ) (later : List ℤ) → length (differences (first ∷ later)) ≡ length later
+pub length-differences : (first : ℤ) (later : List ℤ) → length (differences (first ∷ later)) ≡ length later
 length-differences first [] = refl
 length-differences first (second ∷ later) = ap (λ n. suc n) (length-differences second later)
 
@@ -217,6 +241,14 @@ length_most first later times are is = omega (arith, length-differences first la
 pub coded_whole : (first : ℤ) (later : List ℤ) (times : List ℤ) → times ≡ first ∷ later → coded_from first (differences (first ∷ later)) ≡ coded_times times
 unfolding coded_times
 coded_whole first later times is = ap coded_times (sym is)
+
+-- the same for the times themselves
+pub run_whole : (first : ℤ) (later times : List ℤ) (difference count : ℕ) → times ≡ first ∷ later → all_same (differences (first ∷ later)) ≡ true → get_or (differences (first ∷ later)) 0 0 ≡ difference → count ≡ length times
+    → (32 + exponent_of (difference ∷ [])) ∷ (to_be_bytes w64 (cast_unsigned w64 first) ++ (uvarint (difference / 10 ^ exponent_of (difference ∷ [])) ++ uvarint count)) ≡ coded_times times
+run_whole first later times difference count is same difference_is count_is =
+    ap (λ (d : ℕ). (32 + exponent_of (d ∷ [])) ∷ (to_be_bytes w64 (cast_unsigned w64 first) ++ (uvarint (d / 10 ^ exponent_of (d ∷ [])) ++ uvarint count))) (sym difference_is)
+    ∙ run_written first (differences (first ∷ later)) count (omega (arith, count_is, ap length is, length-differences first later)) same
+    ∙ coded_whole first later times is
 
 -- ---- the form that is read
 

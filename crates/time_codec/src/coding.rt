@@ -1,11 +1,11 @@
-ghost use Rattle.std.specs.Prelude.{◌≡◌, ◌+◌, ◌/◌, ◌^◌, ◌<◌, ◌≤◌, ◌∷◌, ◌++◌, [], length, All, IfOk};
+ghost use Rattle.std.specs.Prelude.{◌≡◌, ◌+◌, ◌/◌, ◌^◌, ◌<◌, ◌≤◌, ◌∷◌, ◌++◌, [], false, All, IfOk};
 ghost use Rattle.std.specs.List.{flat_map};
 ghost use Rattle.std.specs.Int.{to_be_bytes, cast_unsigned, w64};
 ghost use Rattle.word_codec.specs.Uvarint.{uvarint};
 ghost use Rattle.simple8b.specs.Words.{words_of};
-ghost use Rattle.time_codec.specs.Times.{AreTimes, coded_times, coded_from, exponent_of};
+ghost use Rattle.time_codec.specs.Times.{AreTimes, coded_times, coded_from, exponent_of, all_same};
 
-use super::differences::{between, exponent, is_narrow, is_regular, power, scale};
+use super::differences::{between, even_difference, exponent, is_narrow, power, scale};
 use super::words::begun;
 use std::alloc::{AllocError, Global};
 use tsdb_types::Time;
@@ -19,17 +19,18 @@ pub fn encode(alloc: Global, times: &[Time]) -> Result<Vec<u8>, AllocError>
     let Some((first, later)) = times.split_first() else {
         return Ok(Vec::new(alloc));
     };
+    if let Some(difference) = even_difference(*first, later) {
+        return run_length(alloc, *first, difference, times.len() as u64);
+    }
     let mut differences = between(alloc, *first, later)?;
     coded(alloc, *first, differences.as_mut_slice())
 }
 
+/// Times that are not evenly apart.
 fn coded(alloc: Global, first: Time, differences: &mut [u64]) -> Result<Vec<u8>, AllocError>
-    requires { length differences.old ≤ 999 }
+    requires { all_same differences.old ≡ false }
     ensures { IfOk result (λ bytes. bytes.items ≡ coded_from first differences.old) }
 {
-    if is_regular(differences) {
-        return run_length(alloc, first, differences[0], differences.len() as u64 + 1);
-    }
     let exponent = exponent(differences);
     let unit = power(exponent);
     if is_narrow(unit, differences) {

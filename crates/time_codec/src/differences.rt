@@ -1,4 +1,4 @@
-ghost use Rattle.std.specs.Prelude.{◌≡◌, ◌↔◌, IsTrue, ℕ, ◌+◌, ◌/◌, ◌%◌, ◌^◌, ◌<◌, ◌≤◌, ◌==◌, ℤ, ◌-ℤ◌, unsigned_abs, ◌∷◌, map, IfOk, nat_lt};
+ghost use Rattle.std.specs.Prelude.{◌≡◌, ◌↔◌, IsTrue, ℕ, ◌+◌, ◌/◌, ◌%◌, ◌^◌, ◌<◌, ◌≤◌, ◌==◌, ℤ, ◌-ℤ◌, unsigned_abs, ◌∷◌, length, map, slice_index, true, false, IfOk, IfSome, IsNone, nat_lt};
 ghost use Rattle.std.specs.List.{list_all};
 ghost use Rattle.time_codec.specs.Times.{differences, divides_all, exponent_of, all_same, unscaled};
 
@@ -12,15 +12,53 @@ const GREATEST: usize = 12;
 pub fn between(alloc: Global, first: Time, later: &[Time]) -> Result<Vec<u64>, AllocError>
     ensures { IfOk result (λ found. found.items ≡ differences (first ∷ later.now)) }
 {
-    let mut found = Vec::with_capacity(alloc, later.len())?;
-    let mut before = first;
-    for time in later {
-        found.push(apart(before, *time))?;
-        before = *time;
-    }
+    let mut found = vec![in alloc; 0; later.len()]?;
+    tell_apart(found.as_mut_slice(), first, later);
     Ok(found)
 }
 
+/// Writes how far each time is from the one before.
+fn tell_apart(found: &mut [u64], first: Time, later: &[Time])
+    requires { length found.old ≡ length later.now }
+    ensures { found.new ≡ differences (first ∷ later.now) }
+{
+    let mut before = first;
+    for k in 0..later.len() {
+        let time = later[k];
+        found[k] = apart(before, time);
+        before = time;
+    }
+}
+
+/// The one difference of times that are evenly apart; none where there is none, or where they aren't.
+pub fn even_difference(first: Time, later: &[Time]) -> Option<u64>
+    ensures found { IfSome result (λ difference. (all_same (differences (first ∷ later.now)) ≡ true) × (slice_index (differences (first ∷ later.now)) 0 ≡ difference)) }
+    ensures none { IsNone result → all_same (differences (first ∷ later.now)) ≡ false }
+{
+    let (second, others) = later.split_first()?;
+    let difference = apart(first, *second);
+    if are_even(difference, *second, others) {
+        Some(difference)
+    } else {
+        None
+    }
+}
+
+/// Whether each later time is so far from the one before.
+// Without a way out in between, so that the loop takes several times a turn.
+fn are_even(difference: u64, first: Time, later: &[Time]) -> bool
+    ensures { result ≡ list_all (λ other. other == difference) (differences (first ∷ later.now)) }
+{
+    let mut even = true;
+    let mut before = first;
+    for time in later {
+        even &= apart(before, *time) == difference;
+        before = *time;
+    }
+    even
+}
+
+#[inline(always)]
 fn apart(earlier: Time, later: Time) -> u64
     ensures { result ≡ unsigned_abs (later -ℤ earlier) }
 {

@@ -3,6 +3,8 @@ ghost use Rattle.tsdb_types.specs.Moments.{IsMoment};
 ghost use Rattle.time_codec.specs.Times.{AreTimes, differences};
 ghost use Rattle.time_codec.specs.Reading.{Begin, Lead, times_behind};
 
+use super::early::{early_start, early_times};
+use super::offset::moved;
 use std::alloc::{AllocError, Global};
 use tsdb_types::Time;
 
@@ -47,9 +49,41 @@ pub fn times_evenly(
     if !lead_evenly(first, unit, step, later) {
         return Ok(None);
     }
-    let mut times = vec![in alloc; first; later + 1]?;
-    follow_evenly(times.as_mut_slice(), first, step * unit);
+    let times = even_times(alloc, first, step * unit, later)?;
     Ok(Some(times))
+}
+
+/// The first time, and so many later ones, each as far behind the one before.
+fn even_times(
+    alloc: Global,
+    first: Time,
+    distance: u64,
+    later: usize,
+) -> Result<Vec<Time>, AllocError>
+    requires few { later ≤ 999 }
+    requires on { Lead first (replicate later distance) }
+    ensures { IfOk result (λ times. times.items ≡ first ∷ times_behind first (replicate later distance)) }
+{
+    match early_start(first, distance, later) {
+        Some(start) => early_times(alloc, start, distance, later),
+        None => late_times(alloc, first, distance, later),
+    }
+}
+
+/// The same for times of which some are early and some are not.
+fn late_times(
+    alloc: Global,
+    first: Time,
+    distance: u64,
+    later: usize,
+) -> Result<Vec<Time>, AllocError>
+    requires few { later ≤ 999 }
+    requires on { Lead first (replicate later distance) }
+    ensures { IfOk result (λ times. times.items ≡ first ∷ times_behind first (replicate later distance)) }
+{
+    let mut times = vec![in alloc; first; later + 1]?;
+    follow_evenly(times.as_mut_slice(), first, distance);
+    Ok(times)
 }
 
 /// Whether each step leads on, and to a moment. The moments between two are moments, so the last one tells.
@@ -117,10 +151,10 @@ fn follow(times: &mut [Time], first: Time, unit: u64, steps: &[u64])
     requires on { Lead first (map (λ step. step * unit) steps.now) }
     ensures { times.new ≡ first ∷ times_behind first (map (λ step. step * unit) steps.now) }
 {
-    let mut last = first;
+    let mut total = 0;
     for k in 0..steps.len() {
-        last = moved(last, steps[k] * unit);
-        times[k + 1] = last;
+        total += steps[k] * unit;
+        times[k + 1] = moved(first, total);
     }
 }
 
@@ -136,14 +170,4 @@ fn follow_evenly(times: &mut [Time], first: Time, distance: u64)
         last = moved(last, distance);
         times[k] = last;
     }
-}
-
-/// The moment so far behind another.
-#[inline(always)]
-fn moved(time: Time, distance: u64) -> Time
-    requires { IsMoment (time +ℤ pos distance) }
-    ensures { result ≡ time +ℤ pos distance }
-{
-    let number = time.get().checked_add_unsigned(distance).unwrap();
-    Time::new(number).unwrap()
 }

@@ -5,8 +5,11 @@
 mod bodies;
 mod coding;
 mod differences;
+mod early;
+mod evenly;
 mod following;
 mod form;
+mod offset;
 mod reading;
 mod words;
 

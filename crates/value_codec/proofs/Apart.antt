@@ -1,9 +1,7 @@
 -- The bytes of a list tell the list.
-use Rattle.std.proofs.Common.{◌≡◌, ℕ, ℤ, zero, suc, pos, negsuc, ◌+◌, ◌-◌, ◌*◌, ◌/◌, ◌%◌, ◌^◌, ◌<◌, ◌≤◌, ◌⊎◌, ⊎_elim, Bool, true, false, cond, List, [], ◌∷◌, ◌++◌, length, take, drop, get_or, map, replicate, All, sym, ◌∙◌, ap, subst, refl, arith}
+use Rattle.std.proofs.Common.{◌≡◌, ℕ, ℤ, zero, suc, pos, negsuc, ◌+◌, ◌-◌, ◌*◌, ◌/◌, ◌%◌, ◌^◌, ◌<◌, ◌≤◌, Bool, true, false, cond, List, [], ◌∷◌, ◌++◌, length, take, drop, get_or, map, replicate, All, sym, ◌∙◌, ap, subst, refl, arith}
 use Rattle.std.specs.Int.{w64, cast_signed, cast_unsigned}
-use Rattle.std.specs.List.{flat_map}
 use mir.Val.{SFits}
-use Rattle.std.proofs.lemmas.Bool.{cases_Bool}
 use Rattle.std.proofs.lemmas.Int.{to_z-of_z, of_z-to_z}
 use Rattle.std.proofs.lemmas.List.{take-append-drop, length-drop, length-take, length-map, append-nil, nil_from_length}
 use Rattle.std.proofs.lemmas.List.Elements.{All-head, All-tail}
@@ -24,8 +22,8 @@ use Rattle.value_codec.specs.Steps.{big_endian, step_of, steps_from, form_of, fo
 use Rattle.value_codec.specs.Booleans.{byte_of, bytes_behind, coded_booleans}
 use Rattle.value_codec.specs.Coding.{number_of, truth_of, coded_as, AreOf, IsInRange}
 use Rattle.value_codec.proofs.StepLemmas.{step_of-is, steps_from-nil, steps_from-cons, steps_from-fit}
-use Rattle.value_codec.proofs.Tails.{big_endian_apart, words_apart, words_fit, tail_raw, tail_packed, tail_run, run_is, coded_steps-cons, form_fits, form_byte_apart, HasParts, parts_of}
-use Rattle.value_codec.proofs.BitLemmas.{byte_of-cons, byte_of-take, half_lt, bytes-step, bytes-nil, coded-is, parts_of as boolean_parts}
+use Rattle.value_codec.proofs.Tails.{big_endian_apart, words_apart, words_fit, tail_raw, tail_packed, tail_run, run_is, coded_steps-cons, form_fits, form_byte_apart, parts_of}
+use Rattle.value_codec.proofs.BitLemmas.{byte_of-cons, byte_of-take, half_lt, bytes-step, coded-is, parts_of as boolean_parts}
 use Rattle.value_codec.proofs.OfKinds.{coded_booleans-is, coded_numbers-is}
 
 -- ---- steps

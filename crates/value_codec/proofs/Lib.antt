@@ -1,6 +1,9 @@
 pub mod Apart
 pub mod Begun
 pub mod BitLemmas
+pub mod DoublingLemmas
+pub mod HalfLemmas
 pub mod OfKinds
+pub mod PointLemmas
 pub mod StepLemmas
 pub mod Tails

@@ -6,9 +6,11 @@ mod bits;
 mod decoder;
 mod encoder;
 mod form;
+mod halves;
 mod integers;
 mod law;
 mod numbers;
+mod points;
 #[cfg(test)]
 mod tests;
 mod words;
@@ -16,3 +18,4 @@ mod words;
 pub use decoder::decode;
 pub use encoder::encode;
 pub use law::one_spelling;
+pub use points::decode_points;

@@ -67,7 +67,8 @@ fn bits_of(value: Value) -> u64
 }
 
 /// The number of a kind with these bits.
-fn value_with(kind: Kind, bits: u64) -> Value
+#[inline(always)]
+pub fn value_with(kind: Kind, bits: u64) -> Value
     requires { kind ≢ Kind.Boolean }
     ensures kind { kind_of result ≡ kind }
     ensures bits { number_of result ≡ bits }
@@ -87,7 +88,8 @@ fn step_between(before: u64, number: u64) -> u64
 }
 
 /// The number to which a step leads.
-fn number_after(before: u64, step: u64) -> u64
+#[inline(always)]
+pub fn number_after(before: u64, step: u64) -> u64
     ensures { step_of before result ≡ step }
 {
     before.wrapping_add(unzigzag(step).cast_unsigned())

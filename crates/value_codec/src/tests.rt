@@ -6,7 +6,7 @@ use super::*;
 use std::alloc::Global;
 use std::process::Abort;
 use std::test::Fail;
-use tsdb_types::{Kind, Value};
+use tsdb_types::{Kind, Time, Value};
 
 /// The values have these bytes, and the bytes these values.
 fn check(
@@ -43,6 +43,42 @@ fn three_integers(rt: HostRuntime) -> Result<(), Fail> {
 fn three_booleans(rt: HostRuntime) -> Result<(), Fail> {
     let values = [Value::Bool(true), Value::Bool(false), Value::Bool(true)];
     check(&rt, rt.alloc(), Kind::Boolean, &values, &[0x10, 3, 0xa0])
+}
+
+/// A whole byte, and one bit of another.
+#[test]
+fn nine_booleans(rt: HostRuntime) -> Result<(), Fail> {
+    let values = [
+        Value::Bool(true),
+        Value::Bool(false),
+        Value::Bool(true),
+        Value::Bool(false),
+        Value::Bool(false),
+        Value::Bool(true),
+        Value::Bool(true),
+        Value::Bool(false),
+        Value::Bool(true),
+    ];
+    check(
+        &rt,
+        rt.alloc(),
+        Kind::Boolean,
+        &values,
+        &[0x10, 9, 0xa6, 0x80],
+    )
+}
+
+#[test]
+fn points_of_three_integers(rt: HostRuntime) -> Result<(), Fail> {
+    let first = Time::new(10).ok_or("no moment")?;
+    let last = Time::new(30).ok_or("no moment")?;
+    let bytes = [0x20, 0, 0, 0, 0, 0, 0, 0, 2, 0, 2];
+    let points = decode_points(rt.alloc(), Kind::Integer, &bytes, &[first, first, last])?;
+    assert_eq!(rt; points.len(), 3);
+    let (time, value) = *points.as_slice().last().ok_or("no point")?;
+    assert_eq!(rt; time, last);
+    assert_eq!(rt; value, Value::Int(1));
+    Ok(())
 }
 
 /// The one value 2^62 has a step of 2^63, which no word holds.

@@ -1,9 +1,9 @@
 -- The spelling of a number as groups that go on and a last one, and back.
-use Rattle.std.proofs.Common.{◌≡◌, ℕ, zero, suc, ◌+◌, ◌-◌, ◌*◌, ◌/◌, ◌%◌, ◌^◌, ◌<◌, ◌≤◌, List, [], ◌∷◌, ◌++◌, ◌⊎◌, inl, inr, length, take, drop, get_or, set, refl, sym, ◌∙◌, ap, subst, arith, append_assoc, length-append, add-one}
+use Rattle.std.proofs.Common.{◌≡◌, ℕ, zero, suc, ◌+◌, ◌-◌, ◌*◌, ◌/◌, ◌%◌, ◌^◌, ◌<◌, ◌≤◌, List, [], ◌∷◌, ◌++◌, ◌⊎◌, inl, inr, length, take, drop, get_or, refl, sym, ◌∙◌, ap, subst, arith, append_assoc, length-append, add-one}
 use Rattle.std.specs.Prelude.{All}
 use Rattle.std.proofs.Math.Nat.{pow-succ', pow-le-pow_right, mul-le-mul_right, mul-le-mul_left}
 use Rattle.std.proofs.lemmas.Bool.{cases_lt, cond_below, cond_above}
-use Rattle.std.proofs.lemmas.List.{drop_more, take_more, length-take-le, take_all, take-append-drop, length_push, length-take, take_more_set}
+use Rattle.std.proofs.lemmas.List.{drop_more, take_more, length-take-le, take_all, take-append-le, take-append-drop, length_push, length-take}
 use Rattle.std.proofs.lemmas.List.Elements.{All-nil, All-cons}
 use Rattle.word_codec.specs.Uvarint.{groups, uvarint, IsShort}
 
@@ -296,21 +296,24 @@ length_most number small = elim (cases_lt (length (shape number).front) 10) [
       absurd (omega (arith, size, (shape number).value, small, power, mul-le-mul_left (128 ^ length (shape number).front) some))
 ]
 
--- while `rest` is to be written behind `len` bytes of ten, there is a place for it
-pub place : (bytes : List ℕ) (len rest number : ℕ) → length bytes ≡ 10 → number < 2 ^ 64 → take len bytes ++ uvarint rest ≡ uvarint number → len < 10
-place bytes len rest number ten small is =
-    omega (arith, length_most number small, ap length (sym is), length-append (take len bytes) (uvarint rest), length_is rest, length-take len bytes, ten)
+-- ---- one group more is written
 
-pub spelled_more : (bytes : List ℕ) (len rest number byte : ℕ) → length bytes ≡ 10 → len < 10 → 128 ≤ rest → byte ≡ 128 + rest % 128 → take len bytes ++ uvarint rest ≡ uvarint number → take (len + 1) (set bytes len byte) ++ uvarint (rest / 128) ≡ uvarint number
-spelled_more bytes len rest number byte ten lt large byte_is is =
-    let lt' : len < length bytes = omega arith in
-    ap (λ front. front ++ uvarint (rest / 128)) (take_more_set bytes len byte lt')
-    ∙ append_assoc (take len bytes) (byte ∷ []) (uvarint (rest / 128))
-    ∙ ap (λ b. take len bytes ++ b ∷ uvarint (rest / 128)) byte_is
-    ∙ ap (λ back. take len bytes ++ back) (sym (uvarint_step rest large))
-    ∙ is
+pub kept_all : (items : List ℕ) → take (length items) items ≡ items
+kept_all items = take_all (length items) items (omega arith)
 
-pub spelled_last : (bytes : List ℕ) (len rest number : ℕ) → length bytes ≡ 10 → len < 10 → rest < 128 → take len bytes ++ uvarint rest ≡ uvarint number → take (len + 1) (set bytes len rest) ≡ uvarint number
-spelled_last bytes len rest number ten lt small is =
-    let lt' : len < length bytes = omega arith in
-    take_more_set bytes len rest lt' ∙ ap (λ back. take len bytes ++ back) (sym (uvarint_small rest small)) ∙ is
+pub kept_more : (items out new : List ℕ) (byte : ℕ) → new ≡ out ++ byte ∷ [] → take (length items) out ≡ items → take (length items) new ≡ items
+kept_more items out new byte pushed kept =
+    let within : length items ≤ length out = omega (arith, ap length kept, length-take (length items) out) in
+    ap (take (length items)) pushed ∙ take-append-le (length items) out (byte ∷ []) within ∙ kept
+
+pub group_more : (out new all : List ℕ) (rest byte : ℕ) → 128 ≤ rest → byte ≡ rest % 128 + 128 → new ≡ out ++ byte ∷ [] → out ++ uvarint rest ≡ all → new ++ uvarint (rest / 128) ≡ all
+group_more out new all rest byte wide is pushed so_far =
+    let same : byte ≡ 128 + rest % 128 = omega (arith, is) in
+    ap (λ ns. ns ++ uvarint (rest / 128)) pushed
+    ∙ append_assoc out (byte ∷ []) (uvarint (rest / 128))
+    ∙ ap (λ b. out ++ b ∷ uvarint (rest / 128)) same
+    ∙ ap (λ ns. out ++ ns) (sym (uvarint_step rest wide))
+    ∙ so_far
+
+pub group_last : (out new all : List ℕ) (rest : ℕ) → rest < 128 → new ≡ out ++ rest ∷ [] → out ++ uvarint rest ≡ all → new ≡ all
+group_last out new all rest small pushed so_far = pushed ∙ ap (λ ns. out ++ ns) (sym (uvarint_small rest small)) ∙ so_far

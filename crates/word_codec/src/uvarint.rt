@@ -5,8 +5,6 @@ ghost use Rattle.word_codec.specs.Uvarint.{uvarint, IsShort, IsLong};
 use super::error::UvarintFault;
 use std::alloc::AllocError;
 
-/// The most bytes of a number of 64 bits.
-const MAX_LEN: usize = 10;
 /// Where the last of so many bytes stands.
 const LAST_PLACE: usize = 9;
 
@@ -15,24 +13,28 @@ pub fn write_uvarint(out: &mut Vec<u8>, number: u64) -> Result<(), AllocError>
     ensures ok { OnOk result (out.new.items ≡ out.old.items ++ uvarint number) }
     ensures err { OnErr result (out.new.items ≡ out.old.items) }
 {
-    let mut bytes = [0; MAX_LEN];
-    let len = spell(&mut bytes, number);
-    out.extend_from_slice(&bytes[..len])
+    let len = out.len();
+    match append(out, number) {
+        Ok(()) => Ok(()),
+        Err(error) => {
+            out.truncate(len);
+            Err(error)
+        }
+    }
 }
 
-fn spell(bytes: &mut [u8; 10], number: u64) -> usize
-    ensures within { result ≤ 10 }
-    ensures spelled { take result bytes.new ≡ uvarint number }
+/// The same, but without memory the bytes of it stay that had room.
+fn append(out: &mut Vec<u8>, number: u64) -> Result<(), AllocError>
+    ensures ok { OnOk result (out.new.items ≡ out.old.items ++ uvarint number) }
+    ensures err { OnErr result (take (length out.old.items) out.new.items ≡ out.old.items) }
 {
     let mut rest = number;
-    let mut len = 0;
     while rest >= 128 {
-        bytes[len] = (rest % 128) as u8 + 128;
+        out.push((rest % 128) as u8 + 128)?;
         rest /= 128;
-        len += 1;
     }
-    bytes[len] = rest as u8;
-    len + 1
+    out.push(rest as u8)?;
+    Ok(())
 }
 
 /// The number at the front of the bytes, and how many bytes it takes, 1 to 10. Other bytes may follow it.

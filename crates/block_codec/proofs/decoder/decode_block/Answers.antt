@@ -30,14 +30,14 @@ returns-in_err-times-clause-bad_block c = λ bad points block.
     let refused : IsRefused BadBlock c.in-Some-split_parts.times.now = subst (λ (f : BlockFault). IsRefused f c.in-Some-split_parts.times.now) fault c.in_err-times.ensures.refused in
     refused (times_of points) parts.times same.0
 
-pub returns-in_err-values-clause-bad_block : goal.returns-in_err-values-clause-bad_block
-returns-in_err-values-clause-bad_block c = λ bad points block.
+pub returns-in_err-points-clause-bad_block : goal.returns-in_err-points-clause-bad_block
+returns-in_err-points-clause-bad_block c = λ bad points block.
     let parts = parts_of points c.args.bytes.now c.in-Some.head.now c.in-Some.behind.now block c.in-Some.ensures.cases.0 in
     let same = same_parts points c.in-Some.head.now c.in-Some.behind.now c.in-Some-split_parts.times.now c.in-Some-split_parts.values.now parts c.in-Some-split_parts.ensures.found in
     let kind : parts.kind ≡ c.in-Some-kind_with.kind = type_byte_apart _ _ (parts.first ∙ sym c.in-Some-kind_with.ensures.found) in
     let moments : c.in_ok-times.times.items ≡ times_of points = c.in_ok-times.ensures.only (times_of points) parts.times same.0 in
-    let size : length (values_of points) ≡ c.len.result = lengths points ∙ ap length (sym moments) ∙ sym (c.len.ensures ∙ c.in_ok-times.times.ok.0) in
-    c.in_err-values.ensures.bad_block (search rules) (values_of points) (record {
+    let size : length (values_of points) ≡ length c.as_slice.result.now = lengths points ∙ ap length (sym moments) ∙ sym (ap length c.as_slice.ensures.value) in
+    c.in_err-points.ensures.bad_block (search rules) (values_of points) (record {
       alike = subst (λ (k : Kind). AreOf k (values_of points)) kind parts.alike;
       size = size;
       some = omega (arith, size, lengths points, parts.times.some);
@@ -47,10 +47,11 @@ returns-in_err-values-clause-bad_block c = λ bad points block.
 
 pub returns-clause-found : goal.returns-clause-found
 returns-clause-found c =
+    let found = c.in_ok-points.ensures.found in
     block_read c.in_ok-points.points.items c.args.bytes.now c.in-Some.behind.now c.in-Some-split_parts.times.now c.in-Some-split_parts.values.now c.in-Some.head.now c.in-Some-kind_with.kind
-    c.in_ok-times.times.items c.in_ok-values.values.items c.in-Some.ensures.cases.0 c.in-Some-kind_with.ensures.found c.in-Some-split_parts.ensures.found
-    c.in_ok-times.ensures.found.0 c.in_ok-times.ensures.found.1 c.in_ok-values.ensures.found.alike c.in_ok-values.ensures.found.spelled
-    (c.in_ok-points.ensures.times ∙ c.as_slice.ensures.value) (c.in_ok-points.ensures.values ∙ c.as_slice-2.ensures.value)
+    c.in_ok-times.times.items (values_of c.in_ok-points.points.items) c.in-Some.ensures.cases.0 c.in-Some-kind_with.ensures.found c.in-Some-split_parts.ensures.found
+    c.in_ok-times.ensures.found.0 c.in_ok-times.ensures.found.1 found.alike found.spelled
+    (c.in_ok-points.ensures.times ∙ c.as_slice.ensures.value) refl
 
 pub returns-in_default-clause-only : goal.returns-in_default-clause-only
 returns-in_default-clause-only c = λ points block range. absurd (returns-in_default-clause-bad_block c refl points block)
@@ -71,11 +72,11 @@ returns-in_err-times-clause-only c = λ points block range.
     let fault : told ≡ BadKind byte = search rules in
     subst (λ (f : BlockFault). IsRefused f c.in-Some-split_parts.times.now) fault c.in_err-times.ensures.refused)
 
-pub returns-in_err-values-clause-only : goal.returns-in_err-values-clause-only
-returns-in_err-values-clause-only c = λ points block range.
-    memory_alone c.from_residual-in_err-values.result _ c.from_residual-in_err-values.ensures.0
-    (λ bad. returns-in_err-values-clause-bad_block c bad points block)
-    (λ byte bad. c.in_err-values.ensures.no_kind byte (search rules))
+pub returns-in_err-points-clause-only : goal.returns-in_err-points-clause-only
+returns-in_err-points-clause-only c = λ points block range.
+    memory_alone c.from_residual-in_err-points.result _ c.from_residual-in_err-points.ensures.0
+    (λ bad. returns-in_err-points-clause-bad_block c bad points block)
+    (λ byte bad. c.in_err-points.ensures.no_kind byte (search rules))
 
 pub returns-clause-only : goal.returns-clause-only
 returns-clause-only c = λ points block range.
@@ -83,7 +84,8 @@ returns-clause-only c = λ points block range.
     let same = same_parts points c.in-Some.head.now c.in-Some.behind.now c.in-Some-split_parts.times.now c.in-Some-split_parts.values.now parts c.in-Some-split_parts.ensures.found in
     let kind : parts.kind ≡ c.in-Some-kind_with.kind = type_byte_apart _ _ (parts.first ∙ sym c.in-Some-kind_with.ensures.found) in
     let moments : c.in_ok-times.times.items ≡ times_of points = c.in_ok-times.ensures.only (times_of points) parts.times same.0 in
-    let values : c.in_ok-values.values.items ≡ values_of points =
-    values_apart c.in-Some-kind_with.kind c.in_ok-values.values.items (values_of points) c.in_ok-values.ensures.found.alike (subst (λ (k : Kind). AreOf k (values_of points)) kind parts.alike)
-    c.in_ok-values.ensures.range range (c.in_ok-values.ensures.found.spelled ∙ same.1 ∙ ap (λ (k : Kind). coded_as k (values_of points)) kind) in
-    pairs_apart c.in_ok-points.points.items points (c.in_ok-points.ensures.times ∙ c.as_slice.ensures.value ∙ moments) (c.in_ok-points.ensures.values ∙ c.as_slice-2.ensures.value ∙ values)
+    let found = c.in_ok-points.ensures.found in
+    let values : values_of c.in_ok-points.points.items ≡ values_of points =
+    values_apart c.in-Some-kind_with.kind (values_of c.in_ok-points.points.items) (values_of points) found.alike (subst (λ (k : Kind). AreOf k (values_of points)) kind parts.alike)
+    c.in_ok-points.ensures.range range (found.spelled ∙ same.1 ∙ ap (λ (k : Kind). coded_as k (values_of points)) kind) in
+    pairs_apart c.in_ok-points.points.items points (c.in_ok-points.ensures.times ∙ c.as_slice.ensures.value ∙ moments) values

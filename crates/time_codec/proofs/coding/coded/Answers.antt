@@ -1,12 +1,7 @@
-use Rattle.std.proofs.Common.{◌≡◌, ◌+◌, List, ℕ, length, refl, subst, sym}
+use Rattle.std.proofs.Common.{◌≡◌, List, ℕ, subst}
 use Rattle.std.specs.Prelude.{IfOk}
-use Rattle.time_codec.proofs.TimesLemmas.{in_units, run_written, packed_written, raw_is, narrow_values, test_scaled}
+use Rattle.time_codec.proofs.TimesLemmas.{in_units, packed_written, raw_is, narrow_values, test_scaled}
 use Rattle.time_codec.proofs.coding.coded.Goals as goal
-
-pub returns-then-is_regular : goal.returns-then-is_regular
-returns-then-is_regular c =
-    let P : List ℕ → Type 0 = λ items. IfOk c.run_length.result (λ bytes. bytes.items ≡ items) in
-    subst P (run_written c.args.first c.args.differences.now (length c.args.differences.now + 1) refl (sym c.if-is_regular.ensures)) c.run_length.ensures
 
 pub packed-requires-clause-narrow : goal.packed-requires-clause-narrow
 packed-requires-clause-narrow c = narrow_values c.args.differences.now c.power-unit.result c.scale.new.differences (in_units c.args.differences.now c.exponent-exponent.result c.power-unit.result c.scale.new.differences c.power-unit.ensures.value c.scale.ensures) c.if-is_narrow.ensures
@@ -17,13 +12,13 @@ returns-then-is_narrow c =
     subst P
     (packed_written c.args.first c.args.differences.now c.exponent-exponent.result c.power-unit.result c.scale.new.differences
     c.exponent-exponent.ensures.found c.power-unit.ensures.value
-    (in_units c.args.differences.now c.exponent-exponent.result c.power-unit.result c.scale.new.differences c.power-unit.ensures.value c.scale.ensures) (sym c.if-is_regular.ensures) c.if-is_narrow.ensures)
+    (in_units c.args.differences.now c.exponent-exponent.result c.power-unit.result c.scale.new.differences c.power-unit.ensures.value c.scale.ensures) c.requires c.if-is_narrow.ensures)
     c.packed.ensures
 
 pub returns : goal.returns
 returns c =
     let P : List ℕ → Type 0 = λ items. IfOk c.raw.result (λ bytes. bytes.items ≡ items) in
     subst P
-    (raw_is c.args.first c.args.differences.now (sym c.if-is_regular.ensures)
+    (raw_is c.args.first c.args.differences.now c.requires
     (test_scaled c.args.differences.now c.exponent-exponent.result c.power-unit.result _ c.exponent-exponent.ensures.found c.power-unit.ensures.value c.if-is_narrow.ensures))
     c.raw.ensures
