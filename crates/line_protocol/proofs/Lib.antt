@@ -1,6 +1,5 @@
 mod BatchLemmas
 mod ClosedLemmas
-mod HeadLemmas
 mod KindLemmas
 mod LineLemmas
 mod NumberLemmas
@@ -8,6 +7,10 @@ pub mod OnceLemmas
 pub mod OrderLemmas
 mod PartLemmas
 mod ReadingLemmas
+mod SortedLemmas
 mod TextLemmas
+mod TokenLemmas
+mod WalkLemmas
+mod WalkTagLemmas
 pub mod WholeLemmas
 pub mod WritableLemmas

@@ -1,4 +1,4 @@
-use Rattle.std.proofs.Common.{◌≡◌, ◌↔◌, ℕ, zero, suc, ◌+◌, ◌<◌, ◌≤◌, ◌^◌, Bool, true, false, cond, ◌||◌, eqb, ltb, ◌⊎◌, inl, inr, ⊎_elim, Option, Some, None, Result, Ok, Err, List, [], ◌∷◌, ◌++◌, length, get_or, take, drop, ℤ, refl, sym, ap, subst, ◌∙◌, arith}
+use Rattle.std.proofs.Common.{◌≡◌, ◌↔◌, ℕ, zero, suc, ◌+◌, ◌<◌, ◌≤◌, ◌^◌, Bool, true, false, cond, ◌&&◌, ◌||◌, eqb, ltb, ◌⊎◌, inl, inr, ⊎_elim, Option, Some, None, Result, Ok, Err, List, [], ◌∷◌, ◌++◌, length, get_or, take, drop, ℤ, refl, sym, ap, subst, ◌∙◌, arith}
 use Rattle.std.specs.Bool.{MatchBool}
 use Rattle.std.specs.Option.{MatchOption}
 use Rattle.std.proofs.lemmas.Bool.{false≢true, cases_lt, eqb-true}
@@ -20,10 +20,10 @@ use Rattle.line_protocol.specs.declared.fault.LineCode.TheVariants.{KeyTooLong, 
 use Rattle.line_protocol.specs.declared.fault.Refusal.{Refusal}
 use Rattle.line_protocol.specs.declared.fault.Refusal.TheVariants.{Code, Memory}
 use Rattle.line_protocol.specs.declared.field.Field.{Field}
-use Rattle.line_protocol.specs.declared.head.Head.{Head}
 use Rattle.line_protocol.specs.Fields.{fields_of}
-use Rattle.line_protocol.specs.Parts.{parts}
-use Rattle.line_protocol.specs.Heads.{head_code, measurement_of, tags_of, has_time_tag, IsHead}
+use Rattle.line_protocol.specs.Parts.{front, parts, unspaced}
+use Rattle.tsdb_types.proofs.TagLemmas.{differ_from_ascend}
+use Rattle.line_protocol.specs.Heads.{head_code, measurement_of, tags_of, has_time_tag}
 use Rattle.line_protocol.specs.Kinds.{Seen, place_of, note, note_all}
 use Rattle.line_protocol.specs.Lines.{Read, time_of, has_time_field, points_of, is_cut_short, key_step, keys_step, refusal_of, rest_of, head_of, fields_text, time_text, is_skipped, TagsAre, LineIs, AnyLineIs}
 use Rattle.line_protocol.specs.Readings.{IsRefusal, Refuses, ◌>>=◌, unless}
@@ -166,25 +166,31 @@ line-twice seen moment line head refusal fine is told =
     head-fine seen moment line (Err code) (fine ∙ ap head_code is) (inl (subst (λ (h : List ℕ). ¬ (KeysDiffer (tags_of h))) is twice.1, ap err twice.0)))
     told
 
+-- what is told of a head
+pub record Told (head measurement : List ℕ) (reserved : Bool) (series : List ℕ) : Type 0 where
+  pub measurement_is : measurement ≡ measurement_of head
+  pub reserved_is : reserved ≡ has_time_tag (tags_of head)
+  pub key : IsKeyOf (measurement_of head) (tags_of head) series
+
 -- a line with fields behind a head that was read
-pub line-filled : (seen : Seen) (moment : ℤ) (line head fields time : List ℕ) (found : Head) (read : Result Read LineCode)
+pub line-filled : (seen : Seen) (moment : ℤ) (line head fields time measurement : List ℕ) (reserved : Bool) (series : List ℕ) (read : Result Read LineCode)
     → None ≡ head_code head → head ≡ head_of line → fields ≡ fields_text line → (fields ≡ [] → ⊥) → time ≡ time_text line
-    → IsHead head found
-    → rest_of seen moment found.measurement found.reserved found.series fields time ≡ read
+    → Told head measurement reserved series
+    → rest_of seen moment measurement reserved series fields time ≡ read
     → LineIs seen moment line read
-line-filled seen moment line head fields time found read fine is text some at told result =
-    let named : found.measurement ≡ measurement_of (head_of line) = told.measurement ∙ ap measurement_of is in
-    let reserved : found.reserved ≡ has_time_tag (tags_of (head_of line)) = told.reserved ∙ ap (λ (h : List ℕ). has_time_tag (tags_of h)) is in
-    let key = subst (λ (h : List ℕ). IsKeyOf (measurement_of h) (tags_of h) found.series) is told.key in
-    let differ = subst (λ (h : List ℕ). KeysDiffer (tags_of h)) is told.differ in
-    let whole : read ≡ rest_of seen moment (measurement_of (head_of line)) (has_time_tag (tags_of (head_of line))) found.series (fields_text line) (time_text line) =
+line-filled seen moment line head fields time measurement reserved series read fine is text some at told result =
+    let named : measurement ≡ measurement_of (head_of line) = told.measurement_is ∙ ap measurement_of is in
+    let kept : reserved ≡ has_time_tag (tags_of (head_of line)) = told.reserved_is ∙ ap (λ (h : List ℕ). has_time_tag (tags_of h)) is in
+    let key = subst (λ (h : List ℕ). IsKeyOf (measurement_of h) (tags_of h) series) is told.key in
+    let differ = differ_from_ascend (tags_of (head_of line)) key.sorted key.same key.ascend in
+    let whole : read ≡ rest_of seen moment (measurement_of (head_of line)) (has_time_tag (tags_of (head_of line))) series (fields_text line) (time_text line) =
     sym result
-    ∙ ap (λ (m : List ℕ). rest_of seen moment m found.reserved found.series fields time) named
-    ∙ ap (λ (r : Bool). rest_of seen moment (measurement_of (head_of line)) r found.series fields time) reserved
-    ∙ ap (λ (f : List ℕ). rest_of seen moment (measurement_of (head_of line)) (has_time_tag (tags_of (head_of line))) found.series f time) text
-    ∙ ap (λ (t : List ℕ). rest_of seen moment (measurement_of (head_of line)) (has_time_tag (tags_of (head_of line))) found.series (fields_text line) t) at
+    ∙ ap (λ (m : List ℕ). rest_of seen moment m reserved series fields time) named
+    ∙ ap (λ (r : Bool). rest_of seen moment (measurement_of (head_of line)) r series fields time) kept
+    ∙ ap (λ (f : List ℕ). rest_of seen moment (measurement_of (head_of line)) (has_time_tag (tags_of (head_of line))) series f time) text
+    ∙ ap (λ (t : List ℕ). rest_of seen moment (measurement_of (head_of line)) (has_time_tag (tags_of (head_of line))) series (fields_text line) t) at
     in
-    head-fine seen moment line read (fine ∙ ap head_code is) (inr (differ, inr (λ none. some (text ∙ none), found.series, key, whole)))
+    head-fine seen moment line read (fine ∙ ap head_code is) (inr (differ, inr (λ none. some (text ∙ none), series, key, whole)))
 
 -- what a call that read a line left, and what it refused: the same of a line that may hold no point
 abbrev pub Added : Seen → Seen → List Point → List Point → (Result Read LineCode → Type 0) → Type 0
@@ -209,26 +215,44 @@ filled-none (byte ∷ text) e = absurd (omega (arith, eqb-true (length (byte ∷
 pub filled-some : (text : List ℕ) → eqb (length text) 0 ≡ false → text ≡ [] → ⊥
 filled-some text e none = false≢true (sym e ∙ ap (λ (t : List ℕ). eqb (length t) 0) none)
 
-pub filled-ok : (result : Result (Unit {0}) Refusal) (seen after : Seen) (moment : ℤ) (line head fields time : List ℕ) (found : Head) (old new : List Point)
+-- text that begins with no space has something before its first space
+unspaced-front : (text : List ℕ) → front 32 false (unspaced text) ≡ [] → unspaced text ≡ []
+unspaced-front [] e = refl
+unspaced-front (byte ∷ text) e =
+    ⊎_elim
+    (λ (space : eqb byte 32 ≡ true).
+    let on : unspaced (byte ∷ text) ≡ unspaced text = ap (λ (t : Bool). cond t (unspaced text) (byte ∷ text)) space in
+    on ∙ unspaced-front text (sym (ap (λ (t : List ℕ). front 32 false t) on) ∙ e))
+    (λ (other : eqb byte 32 ≡ false).
+    let on : unspaced (byte ∷ text) ≡ byte ∷ text = ap (λ (t : Bool). cond t (unspaced text) (byte ∷ text)) other in
+    let goes : front 32 false (byte ∷ text) ≡ byte ∷ front 32 (eqb byte 92) text = ap (λ (t : Bool). cond (t && true) [] (byte ∷ front 32 (eqb byte 92) text)) other in
+    absurd (omega (arith, ap (λ (t : List ℕ). length t) (sym goes ∙ sym (ap (λ (t : List ℕ). front 32 false t) on) ∙ e))))
+    (decided (eqb byte 32))
+
+pub unspaced-some : (behind text : List ℕ) → text ≡ unspaced behind → eqb (length text) 0 ≡ false → front 32 false text ≡ [] → ⊥
+unspaced-some behind text is some none =
+    filled-some text some (is ∙ unspaced-front behind (sym (ap (λ (t : List ℕ). front 32 false t) is) ∙ none))
+
+pub filled-ok : (result : Result (Unit {0}) Refusal) (seen after : Seen) (moment : ℤ) (line head fields time measurement : List ℕ) (reserved : Bool) (series : List ℕ) (old new : List Point)
     → None ≡ head_code head → head ≡ head_of line → fields ≡ fields_text line → (fields ≡ [] → ⊥) → time ≡ time_text line
-    → IsHead head found
-    → OnOk result ((added : List Point) × (new ≡ old ++ added) × (rest_of seen moment found.measurement found.reserved found.series fields time ≡ Ok (record { points = added; seen = after })))
+    → Told head measurement reserved series
+    → OnOk result ((added : List Point) × (new ≡ old ++ added) × (rest_of seen moment measurement reserved series fields time ≡ Ok (record { points = added; seen = after })))
     → OnOk result (Added seen after old new (LineIs seen moment line))
-filled-ok result seen after moment line head fields time found old new fine is text some at told given =
+filled-ok result seen after moment line head fields time measurement reserved series old new fine is text some at told given =
     on_ok_weaker result
-    (λ (one : (added : List Point) × (new ≡ old ++ added) × (rest_of seen moment found.measurement found.reserved found.series fields time ≡ Ok (record { points = added; seen = after }))).
-    (one.0, one.1, line-filled seen moment line head fields time found (Ok (record { points = one.0; seen = after })) fine is text some at told one.2))
+    (λ (one : (added : List Point) × (new ≡ old ++ added) × (rest_of seen moment measurement reserved series fields time ≡ Ok (record { points = added; seen = after }))).
+    (one.0, one.1, line-filled seen moment line head fields time measurement reserved series (Ok (record { points = one.0; seen = after })) fine is text some at told one.2))
     given
 
-pub filled-refused : (result : Result (Unit {0}) Refusal) (seen : Seen) (moment : ℤ) (line head fields time : List ℕ) (found : Head)
+pub filled-refused : (result : Result (Unit {0}) Refusal) (seen : Seen) (moment : ℤ) (line head fields time measurement : List ℕ) (reserved : Bool) (series : List ℕ)
     → None ≡ head_code head → head ≡ head_of line → fields ≡ fields_text line → (fields ≡ [] → ⊥) → time ≡ time_text line
-    → IsHead head found
-    → IfErr result (λ refusal. Refuses refusal (rest_of seen moment found.measurement found.reserved found.series fields time))
+    → Told head measurement reserved series
+    → IfErr result (λ refusal. Refuses refusal (rest_of seen moment measurement reserved series fields time))
     → IfErr result (λ refusal. IsRefusal refusal (λ code. LineIs seen moment line (Err code)))
-filled-refused result seen moment line head fields time found fine is text some at told given =
-    let reading = rest_of seen moment found.measurement found.reserved found.series fields time in
+filled-refused result seen moment line head fields time measurement reserved series fine is text some at told given =
+    let reading = rest_of seen moment measurement reserved series fields time in
     IfErr-weaker result (λ refusal. Refuses refusal reading) (λ refusal. IsRefusal refusal (λ code. LineIs seen moment line (Err code)))
-    (λ refusal refused. refused-from refusal reading (λ code. LineIs seen moment line (Err code)) (λ code one. line-filled seen moment line head fields time found (Err code) fine is text some at told one) refused)
+    (λ refusal refused. refused-from refusal reading (λ code. LineIs seen moment line (Err code)) (λ code one. line-filled seen moment line head fields time measurement reserved series (Err code) fine is text some at told one) refused)
     given
 
 -- the steps behind the head, where each has a value

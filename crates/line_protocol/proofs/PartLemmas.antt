@@ -1,4 +1,4 @@
-use Rattle.std.proofs.Common.{◌≡◌, ℕ, ◌≤◌, Bool, true, false, cond, not, ◌&&◌, eqb, ◌⊎◌, inl, inr, ⊎_elim, List, [], ◌∷◌, ◌++◌, length, refl, sym, ap, ◌∙◌, arith}
+use Rattle.std.proofs.Common.{◌≡◌, ℕ, zero, suc, ◌<◌, ◌≤◌, Bool, true, false, cond, not, ◌&&◌, eqb, ◌⊎◌, inl, inr, ⊎_elim, List, [], ◌∷◌, ◌++◌, length, get_or, take, drop, refl, sym, ap, ◌∙◌, arith}
 use Rattle.std.proofs.lemmas.Bool.{false≢true}
 use Rattle.std.proofs.lemmas.Bool.Decides.{nat_tests}
 use Rattle.std.specs.List.{onto_first, slice_split}
@@ -139,3 +139,27 @@ parts-cut mark left part after p a =
     parts-first mark false left
     ∙ ap (λ (t : List ℕ). t ∷ parts_behind mark (rest mark false left)) (sym p)
     ∙ ap (λ (t : List ℕ). part ∷ parts_behind mark t) (sym a)
+
+-- the first line of a text, where its newline was found
+pub line-at : (text : List ℕ) (at : ℕ) → at < length text → ((k : ℕ) → k < at → eqb (get_or text k 0) 10 ≡ true → ⊥) → eqb (get_or text at 0) 10 ≡ true → (take at text ≡ line_front text) × (drop at text ≡ line_rest text)
+line-at [] at l before is = absurd (omega arith)
+line-at (b ∷ text) zero l before is = (
+  sym (ap (λ (t : Bool). cond t [] (b ∷ line_front text)) is),
+  sym (ap (λ (t : Bool). cond t (b ∷ text) (line_rest text)) is),
+)
+line-at (b ∷ text) (suc at) l before is =
+    let other : eqb b 10 ≡ false = ⊎_elim (λ (e : eqb b 10 ≡ true). absurd (before 0 (omega arith) e)) (λ (e : eqb b 10 ≡ false). e) (decided (eqb b 10)) in
+    let behind = line-at text at (omega arith) (λ k m. before (suc k) (omega arith)) is in (
+      ap (λ (t : List ℕ). b ∷ t) behind.0 ∙ sym (ap (λ (t : Bool). cond t [] (b ∷ line_front text)) other),
+      behind.1 ∙ sym (ap (λ (t : Bool). cond t (b ∷ text) (line_rest text)) other),
+    )
+
+-- and where none was
+pub line-whole : (text : List ℕ) → ((k : ℕ) → k < length text → eqb (get_or text k 0) 10 ≡ true → ⊥) → (text ≡ line_front text) × ([] ≡ line_rest text)
+line-whole [] none = (refl, refl)
+line-whole (b ∷ text) none =
+    let other : eqb b 10 ≡ false = ⊎_elim (λ (e : eqb b 10 ≡ true). absurd (none 0 (omega arith) e)) (λ (e : eqb b 10 ≡ false). e) (decided (eqb b 10)) in
+    let behind = line-whole text (λ k l. none (suc k) (omega arith)) in (
+      ap (λ (t : List ℕ). b ∷ t) behind.0 ∙ sym (ap (λ (t : Bool). cond t [] (b ∷ line_front text)) other),
+      behind.1 ∙ sym (ap (λ (t : Bool). cond t (b ∷ text) (line_rest text)) other),
+    )

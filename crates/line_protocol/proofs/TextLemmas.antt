@@ -1,24 +1,21 @@
 -- The parts of a line are texts, and those that are to be names spell names.
-use Rattle.std.proofs.Common.{◌≡◌, ◌≢◌, ℕ, zero, suc, ◌-◌, ◌<◌, Bool, true, false, cond, not, ◌&&◌, eqb, ⊎_elim, Option, Some, None, Result, Ok, Err, List, [], ◌∷◌, ◌++◌, length, get_or, take, drop, refl, sym, ap, subst, ◌∙◌, lit<, arith, length-append}
+use Rattle.std.proofs.Common.{◌≡◌, ◌≢◌, ℕ, zero, suc, ◌-◌, ◌<◌, Bool, true, false, cond, not, ◌&&◌, eqb, ⊎_elim, Result, Ok, Err, List, [], ◌∷◌, ◌++◌, length, get_or, take, drop, refl, sym, ap, subst, ◌∙◌, lit<, arith, length-append}
 use Rattle.std.proofs.lemmas.Bool.{false≢true, eqb-true, eq-eqb}
 use Rattle.std.proofs.lemmas.List.{append-nil, append_assoc, take-append-drop}
-use Rattle.std.proofs.lemmas.Str.{IsUtf8-append, IsUtf8-nil, IsUtf8-from_ascii, IsUtf8-take, IsUtf8-drop, IsCharBoundary-before_ascii, IsCharBoundary-after_ascii}
-use Rattle.std.proofs.lemmas.Str.Ascii.{IsAscii-nil, IsAscii-cons}
+use Rattle.std.proofs.lemmas.Str.{IsUtf8-append, IsUtf8-nil, IsUtf8-take, IsUtf8-drop, IsCharBoundary-before_ascii, IsCharBoundary-after_ascii}
 use Rattle.std.proofs.Math.Seq.{drop-append_seam, drop-cons}
-use Rattle.std.specs.List.{All, list_all}
+use Rattle.std.specs.List.{All}
 use Rattle.std.specs.Str.{IsUtf8}
-use Rattle.tsdb_types.specs.Series.{measurement_ends_at, tag_ends_at}
+use Rattle.tsdb_types.specs.Series.{tag_ends_at}
 use Rattle.tsdb_types.specs.declared.value.Value.{Value}
 use Rattle.line_protocol.specs.declared.fault.LineCode.{LineCode}
-use Rattle.line_protocol.specs.declared.fault.LineCode.TheVariants.{NoMeasurement, BadTag, BadField}
-use Rattle.line_protocol.specs.Heads.{measurement_part, tag_parts, head_code}
+use Rattle.line_protocol.specs.declared.fault.LineCode.TheVariants.{BadField}
 use Rattle.line_protocol.specs.Lines.{behind_head, fields_text}
 use Rattle.line_protocol.specs.Values.{value_of}
-use Rattle.line_protocol.specs.Names.{begins_with, unescaped, behind_first, key_part, value_part, is_tag}
-use Rattle.line_protocol.specs.Parts.{front, rest, parts_behind, line_front, line_rest, unspaced, is_blank, unspaced_end, without_return, trimmed, slashed}
-use Rattle.line_protocol.specs.Texts.{IsOneLine, IsClosed, SpellsName, StartsAscii, HoldsTags, IsSoundHead}
-use Rattle.line_protocol.proofs.ClosedLemmas.{front-rest, name-closed, marked-front, closed-front}
-use Rattle.line_protocol.proofs.HeadLemmas.{are_tags-step}
+use Rattle.line_protocol.specs.Names.{begins_with, unescaped, behind_first, key_part, value_part}
+use Rattle.line_protocol.specs.Parts.{front, rest, line_front, line_rest, unspaced, is_blank, unspaced_end, without_return, trimmed, slashed}
+use Rattle.line_protocol.specs.Texts.{IsOneLine, IsClosed, SpellsName, StartsAscii}
+use Rattle.line_protocol.proofs.ClosedLemmas.{front-rest, name-closed, marked-front}
 use Rattle.line_protocol.proofs.PartLemmas.{decided, rest-stops, rest-goes}
 
 get-seam : (xs : List ℕ) (b : ℕ) (ys : List ℕ) → get_or (xs ++ b ∷ ys) (length xs) 0 ≡ b
@@ -91,7 +88,7 @@ mark-eq byte mark more e =
     (λ (f : eqb byte mark ≡ false). absurd (false≢true (sym (ap (λ (t : Bool). t && more) f) ∙ e)))
     (decided (eqb byte mark))
 
-rest-starts : (mark : ℕ) (slash : Bool) (text : List ℕ) → mark < 128 → StartsAscii (rest mark slash text)
+pub rest-starts : (mark : ℕ) (slash : Bool) (text : List ℕ) → mark < 128 → StartsAscii (rest mark slash text)
 rest-starts mark slash [] low = tt
 rest-starts mark slash (byte ∷ text) low =
     ⊎_elim
@@ -272,7 +269,7 @@ last-closed : (slash : Bool) (byte : ℕ) (text : List ℕ) → slashed slash (b
 last-closed slash byte [] closed = λ is. false≢true (sym closed ∙ eq-eqb byte 92 is)
 last-closed slash byte (next ∷ text) closed = last-closed (eqb byte 92) next text closed
 
-closed-end : (text : List ℕ) → 0 < length text → IsClosed text → get_or text (length text - 1) 0 ≢ 92
+pub closed-end : (text : List ℕ) → 0 < length text → IsClosed text → get_or text (length text - 1) 0 ≢ 92
 closed-end [] some closed = absurd (omega arith)
 closed-end (byte ∷ text) some closed =
     let e : length text ≡ length (byte ∷ text) - 1 = omega arith in
@@ -299,124 +296,7 @@ key-spells part is key value =
     spells tag_ends_at (key_part part) (parts-line 61 part (lit< tt) is).0 key
     (marked-front 61 part (λ none. value (ap (λ (t : List ℕ). behind_first t) none)))
 
-closed-behind : (xs ys : List ℕ) (slash : Bool) → slashed slash (xs ++ ys) ≡ false → IsClosed ys
-closed-behind [] [] slash closed = refl
-closed-behind [] (y ∷ ys) slash closed = closed
-closed-behind (x ∷ xs) ys slash closed = closed-behind xs ys (eqb x 92) closed
-
--- the rest of a text that ends with no backslash ends with none
-pub closed-rest : (mark : ℕ) (text : List ℕ) → IsClosed text → IsClosed (rest mark false text)
-closed-rest mark text closed =
-    closed-behind (front mark false text) (rest mark false text) false (ap (λ (t : List ℕ). slashed false t) (front-rest mark false text) ∙ closed)
-
-cons-some : (byte : ℕ) (text : List ℕ) → byte ∷ text ≡ [] → ⊥
-cons-some byte text is = cc
-
-not-nil : (text : List ℕ) → not (eqb (length text) 0) ≡ true → text ≢ []
-not-nil [] e = λ is. false≢true e
-not-nil (byte ∷ text) e = λ is. cons-some byte text is
-
-both-first : (a b : Bool) → (a && b) ≡ true → a ≡ true
-both-first true b e = refl
-both-first false b e = absurd (false≢true e)
-
-both-second : (a b : Bool) → (a && b) ≡ true → b ≡ true
-both-second true b e = e
-both-second false b e = absurd (false≢true e)
-
-tag-key : (part : List ℕ) → is_tag part ≡ true → key_part part ≢ []
-tag-key part e = not-nil (key_part part) (both-first (not (eqb (length (key_part part)) 0)) (not (eqb (length (value_part part)) 0) && eqb (length (rest 61 false (value_part part))) 0) e)
-
-tag-value : (part : List ℕ) → is_tag part ≡ true → value_part part ≢ []
-tag-value part e =
-    not-nil (value_part part)
-    (both-first (not (eqb (length (value_part part)) 0)) (eqb (length (rest 61 false (value_part part))) 0)
-    (both-second (not (eqb (length (key_part part)) 0)) (not (eqb (length (value_part part)) 0) && eqb (length (rest 61 false (value_part part))) 0) e))
-
--- a tag of a line
-pub tag-key-spells : (part : List ℕ) → IsOneLine part → is_tag part ≡ true → SpellsName tag_ends_at (key_part part)
-tag-key-spells part is e = key-spells part is (tag-key part e) (tag-value part e)
-
-behind-line-first : (text : List ℕ) → IsOneLine text → StartsAscii text → IsOneLine (behind_first text)
-behind-line-first [] is start = is
-behind-line-first (byte ∷ text) is start = behind-line byte text start is
-
-value-line : (part : List ℕ) → IsOneLine part → IsOneLine (value_part part)
-value-line part is = behind-line-first (rest 61 false part) (parts-line 61 part (lit< tt) is).1 (rest-starts 61 false part (lit< tt))
-
-first-closed : (text : List ℕ) → IsClosed text → IsClosed (behind_first text)
-first-closed [] closed = refl
-first-closed (byte ∷ text) closed = closed-behind (byte ∷ []) text false closed
-
-pub tag-value-spells : (whole : Bool) (part : List ℕ) → IsOneLine part → is_tag part ≡ true → (whole ≡ true → IsClosed part) → SpellsName tag_ends_at (cond whole (value_part part) (key_part part))
-tag-value-spells false part is e closed = tag-key-spells part is e
-tag-value-spells true part is e closed =
-    spells tag_ends_at (value_part part) (value-line part is) (tag-value part e) (first-closed (rest 61 false part) (closed-rest 61 part (closed refl)))
-
--- a tag of a head, as it is read
-pub record TagPart (whole : Bool) (part : List ℕ) : Type 0 where
-  pub key : SpellsName tag_ends_at (key_part part)
-  pub value : SpellsName tag_ends_at (cond whole (value_part part) (key_part part))
-
--- the first tag behind a comma, and those behind it
-pub holds-next : (whole : Bool) (left : List ℕ) (first : ℕ) (behind part after : List ℕ) → left ≡ first ∷ behind → part ≡ front 44 false behind → after ≡ rest 44 false behind
-    → HoldsTags whole left → TagPart whole part × HoldsTags whole after
-holds-next whole left first behind part after e p a holds =
-    let low : first < 128 = subst (λ (t : List ℕ). StartsAscii t) e holds.start in
-    let line = behind-line first behind low (subst (λ (t : List ℕ). IsOneLine t) e holds.one_line) in
-    let closed : whole ≡ true → IsClosed behind = λ is. closed-behind (first ∷ []) behind false (ap (λ (t : List ℕ). slashed false t) (sym e) ∙ holds.closed is) in
-    let cut = parts-line 44 behind (lit< tt) line in
-    let tags : (is_tag part && list_all is_tag (parts_behind 44 after)) ≡ true = sym (are_tags-step left first behind part after e p a) ∙ holds.tags in
-    let one = both-first (is_tag part) (list_all is_tag (parts_behind 44 after)) tags in
-    let here : IsOneLine part = subst (λ (t : List ℕ). IsOneLine t) (sym p) cut.0 in
-    let ends : whole ≡ true → IsClosed part = λ is. subst (λ (t : List ℕ). IsClosed t) (sym p) (closed-front 44 behind (closed is)) in (
-      record { key = tag-key-spells part here one; value = tag-value-spells whole part here one ends },
-      record {
-        start = subst (λ (t : List ℕ). StartsAscii t) (sym a) (rest-starts 44 false behind (lit< tt));
-        one_line = subst (λ (t : List ℕ). IsOneLine t) (sym a) cut.1;
-        tags = both-second (is_tag part) (list_all is_tag (parts_behind 44 after)) tags;
-        closed = λ is. subst (λ (t : List ℕ). IsClosed t) (sym a) (closed-rest 44 behind (closed is));
-      },
-    )
-
-abbrev codes : List ℕ → Bool → Option LineCode
-codes measurement tags = cond (eqb (length measurement) 0) (Some NoMeasurement) (cond (not tags) (Some BadTag) None)
-
-abbrev either : Bool → Option LineCode
-either empty = cond empty (Some NoMeasurement) (Some BadTag)
-
-either-code : (empty : Bool) → either empty ≡ None → ⊥
-either-code true e = cc
-either-code false e = cc
-
-sound-both : (measurement : List ℕ) (tags : Bool) → codes measurement tags ≡ None → (measurement ≢ []) × (tags ≡ true)
-sound-both [] tags e = absurd (cc)
-sound-both (byte ∷ text) true e = (cons-some byte text, refl)
-sound-both (byte ∷ text) false e = absurd (either-code (eqb (length (byte ∷ text)) 0) e)
-
--- the tags behind the measurement of a head
-pub head-tags : (whole : Bool) (head : List ℕ) → IsSoundHead head → (whole ≡ true → IsClosed head) → HoldsTags whole (rest 44 false head)
-head-tags whole head is closed = record {
-  start = rest-starts 44 false head (lit< tt);
-  one_line = (parts-line 44 head (lit< tt) is.one_line).1;
-  tags = (sound-both (measurement_part head) (list_all is_tag (tag_parts head)) is.sound).1;
-  closed = λ all. closed-rest 44 head (closed all);
-}
-
--- the measurement of a head
-pub head-measurement : (head : List ℕ) → IsSoundHead head → IsClosed head → SpellsName measurement_ends_at (front 44 false head)
-head-measurement head is closed =
-    spells measurement_ends_at (front 44 false head) (parts-line 44 head (lit< tt) is.one_line).0
-    (sound-both (measurement_part head) (list_all is_tag (tag_parts head)) is.sound).0
-    (closed-front 44 head closed)
-
--- the head of a line, and its fields
-pub line-head : (line head : List ℕ) → IsOneLine line → head ≡ front 32 false line → None ≡ head_code head → IsSoundHead head
-line-head line head is e fine = record {
-  one_line = subst (λ (t : List ℕ). IsOneLine t) (sym e) (parts-line 32 line (lit< tt) is).0;
-  sound = sym fine;
-}
-
+-- the fields of a line are one line
 pub line-fields : (line fields : List ℕ) → IsOneLine line → fields ≡ fields_text line → IsOneLine fields
 line-fields line fields is e =
     let behind = unspaced-line (rest 32 false line) (parts-line 32 line (lit< tt) is).1 in
@@ -440,11 +320,11 @@ field-key-spells part key value read is k v some e =
     subst (λ (t : List ℕ). SpellsName tag_ends_at t) (sym k)
     (field-key part is (ap (λ (t : List ℕ). eqb (length t) 0) (sym k) ∙ some) (λ none. value-some value read e (v ∙ none)))
 
--- the name `any`
-pub any-name : SpellsName measurement_ends_at (97 ∷ 110 ∷ 121 ∷ [])
-any-name =
-    let text : IsOneLine (97 ∷ 110 ∷ 121 ∷ []) = record {
-      utf8 = IsUtf8-from_ascii (97 ∷ 110 ∷ 121 ∷ []) (IsAscii-cons 97 (110 ∷ 121 ∷ []) (lit< tt) (IsAscii-cons 110 (121 ∷ []) (lit< tt) (IsAscii-cons 121 [] (lit< tt) IsAscii-nil)));
-      unbroken = unbroken-cons 97 (110 ∷ 121 ∷ []) (not-newline 97 refl) (unbroken-cons 110 (121 ∷ []) (not-newline 110 refl) (unbroken-cons 121 [] (not-newline 121 refl) unbroken-nil));
-    } in
-    spells measurement_ends_at (97 ∷ 110 ∷ 121 ∷ []) text (cons-some 97 (110 ∷ 121 ∷ [])) refl
+-- the head of a line is one line
+pub head-line : (line head : List ℕ) → IsOneLine line → head ≡ front 32 false line → IsOneLine head
+head-line line head is h = subst (λ (t : List ℕ). IsOneLine t) (sym h) (parts-line 32 line (lit< tt) is).0
+
+-- the measurement of a line is text
+pub measurement-utf8 : (line head measurement : List ℕ) → IsOneLine line → head ≡ front 32 false line → measurement ≡ front 44 false head → IsUtf8 measurement
+measurement-utf8 line head measurement is h m =
+    subst (λ (t : List ℕ). IsUtf8 t) (sym m) (parts-line 44 head (lit< tt) (head-line line head is h)).0.utf8

@@ -1,12 +1,11 @@
 -- Which measurement and which tags the head of a line names.
-use Rattle.std.specs.Prelude.{◌≡◌, ℕ, ◌==◌, Bool, true, false, not, Option, Some, None, List, [], ◌∷◌, map, length, if◌then◌else◌}
+use Rattle.std.specs.Prelude.{ℕ, ◌==◌, Bool, true, false, not, Option, Some, None, List, [], ◌∷◌, map, length, if◌then◌else◌}
 use Rattle.std.specs.List.{list_any, list_all}
 use Rattle.std.specs.Str.{bytes_eq}
-use Rattle.tsdb_types.specs.Series.{measurement_ends_at, tag_ends_at, KeysDiffer, IsKeyOf}
+use Rattle.tsdb_types.specs.Series.{measurement_ends_at, tag_ends_at}
 use Rattle.tsdb_types.specs.declared.tag.Tag.{Tag}
 use Rattle.line_protocol.specs.declared.fault.LineCode.{LineCode}
 use Rattle.line_protocol.specs.declared.fault.LineCode.TheVariants.{NoMeasurement, BadTag}
-use Rattle.line_protocol.specs.declared.head.Head.{Head}
 use Rattle.line_protocol.specs.Names.{unescaped, key_part, value_part, is_tag}
 use Rattle.line_protocol.specs.Parts.{front, rest, parts_behind}
 
@@ -43,10 +42,3 @@ time_word = 116 ∷ 105 ∷ 109 ∷ 101 ∷ []
 -- a tag is named `time`, exactly so
 abbrev pub has_time_tag : List Tag → Bool
 has_time_tag tags = list_any (λ tag. bytes_eq tag.key time_word) tags
-
--- what is read of the head
-pub record IsHead (head : List ℕ) (read : Head) : Type 0 where
-  pub measurement : read.measurement ≡ measurement_of head
-  pub reserved : read.reserved ≡ has_time_tag (tags_of head)
-  pub differ : KeysDiffer (tags_of head)
-  pub key : IsKeyOf (measurement_of head) (tags_of head) read.series

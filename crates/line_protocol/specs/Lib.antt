@@ -8,5 +8,7 @@ pub mod Numbers
 pub mod Once
 pub mod Parts
 pub mod Readings
+pub mod Sorted
 pub mod Texts
+pub mod Tokens
 pub mod Values

@@ -1,16 +1,7 @@
 -- Which name a part of a line spells, and how a tag and a field are cut at their equals sign.
-use Rattle.std.specs.Prelude.{ℕ, Bool, false, not, ◌&&◌, ◌==◌, List, [], ◌∷◌, length, if◌then◌else◌}
+use Rattle.std.specs.Prelude.{ℕ, Bool, false, not, ◌&&◌, ◌==◌, List, [], ◌∷◌, length}
 use Rattle.line_protocol.specs.Parts.{front, rest}
-
--- the text begins with a byte that the test picks
-abbrev pub begins_with : (ℕ → Bool) → List ℕ → Bool
-begins_with picks [] = false
-begins_with picks (byte ∷ text) = picks byte
-
--- the name that a part spells: without each backslash right before a byte that the test picks; any other backslash stands for itself
-abbrev pub unescaped : (ℕ → Bool) → List ℕ → List ℕ
-unescaped picks [] = []
-unescaped picks (byte ∷ text) = if (byte == 92) && begins_with picks text then unescaped picks text else byte ∷ unescaped picks text
+pub use Rattle.tsdb_types.specs.Spelled.{begins_with, unescaped}
 
 -- the text without its first byte
 abbrev pub behind_first : List ℕ → List ℕ

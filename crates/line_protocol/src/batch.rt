@@ -11,6 +11,7 @@ use crate::cut::{cut_line, trimmed};
 use crate::fault::{LineCode, LineFault, Refusal};
 use crate::kinds::Kinds;
 use crate::line::read_any_line;
+use memchr::memchr_iter;
 use std::alloc::Global;
 use tsdb_types::{Batch, Point, Time};
 
@@ -66,7 +67,7 @@ fn is_too_long(bytes: &[u8]) -> bool
 fn line_count(bytes: &[u8]) -> usize
     ensures { result ≡ spec.line_count bytes.now }
 {
-    let ended = bytes.iter().filter(|byte| **byte == b'\n').count();
+    let ended = memchr_iter(b'\n', bytes).count();
     if is_open(bytes) {
         return ended + 1;
     }

@@ -1,6 +1,8 @@
 ghost use Rattle.std.specs.Prelude.{◌≡◌, ◌<◌, false, length, IfSome, IfNone};
 ghost use Rattle.line_protocol.specs.Parts as spec;
 
+use memchr::memchr;
+
 // The front of a text up to the first of these bytes that no backslash stands before, and the rest from that byte on.
 pub fn cut(text: &[u8], mark: u8) -> (&[u8], &[u8])
     ensures front { result.0.now ≡ spec.front mark false text.now }
@@ -21,12 +23,10 @@ pub fn cut_line(text: &[u8]) -> (&[u8], &[u8])
     ensures front { result.0.now ≡ spec.line_front text.now }
     ensures rest { result.1.now ≡ spec.line_rest text.now }
 {
-    for (at, byte) in text.iter().enumerate() {
-        if *byte == b'\n' {
-            return text.split_at(at);
-        }
+    match memchr(b'\n', text) {
+        Some(at) => text.split_at(at),
+        None => text.split_at(text.len()),
     }
-    text.split_at(text.len())
 }
 
 pub fn without_spaces(text: &[u8]) -> &[u8]

@@ -10,9 +10,11 @@ mod kinds;
 mod line;
 mod name;
 mod number;
+mod sorted;
 #[cfg(test)]
 mod tests;
 mod value;
+mod walk;
 
 pub use batch::{one_reading, read_batch};
 pub use fault::{LineCode, LineFault};

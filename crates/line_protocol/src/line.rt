@@ -1,20 +1,25 @@
-ghost use Rattle.std.specs.Prelude.{◌≡◌, ◌++◌, ◌∷◌, [], ◌||◌, ◌⊎◌, true, List, Ok, Err, Some, None, OnOk, IfErr, if◌then◌else◌};
-ghost use Rattle.tsdb_types.specs.Series.{KeysDiffer};
+ghost use Rattle.std.specs.Prelude.{◌≡◌, ◌++◌, ◌∷◌, [], ◌||◌, ◌⊎◌, true, false, List, Ok, Err, Some, None, OnOk, IfErr, IsTrue, if◌then◌else◌};
+ghost use Rattle.std.specs.Str.{IsUtf8};
+ghost use Rattle.tsdb_types.specs.Series.{measurement_ends_at, Ascend, KeysDiffer};
+ghost use Rattle.tsdb_types.specs.Spelled.{unescaped};
 ghost use Rattle.tsdb_types.specs.declared.point.Point.{Point};
 ghost use Rattle.line_protocol.specs.Heads.{tags_of};
 ghost use Rattle.line_protocol.specs.Kinds.{seen_of};
 ghost use Rattle.line_protocol.specs.Numbers.{is_moment, signed_of};
 ghost use Rattle.line_protocol.specs.Lines.{time_of, has_time_field, points_of, rest_of, LineIs, AnyLineIs};
 ghost use Rattle.line_protocol.specs.Lines as spec;
+ghost use Rattle.line_protocol.specs.Parts.{front, unspaced};
+ghost use Rattle.line_protocol.specs.Parts as part;
 ghost use Rattle.line_protocol.specs.Readings.{IsRefusal, Refuses, Gives, unless};
-ghost use Rattle.line_protocol.specs.Texts.{IsOneLine, IsSoundHead};
+ghost use Rattle.line_protocol.specs.Texts.{IsOneLine};
 
-use crate::cut::{cut, without_spaces};
+use crate::cut::without_spaces;
 use crate::fault::{LineCode, Refusal};
 use crate::field::{Field, read_fields};
-use crate::head::{Head, head_fault, is_time, keys_differ, read_head};
+use crate::head::{is_time, keys_differ, read_series};
 use crate::kinds::Kinds;
 use crate::number::{is_digits, number_of, without_minus};
+use crate::walk::{Walk, walk_head};
 use std::alloc::{AllocError, AllocFailed, Global};
 use tsdb_types::{Cell, KeyFault, Name, Point, SeriesKey, Time, key_fault};
 
@@ -56,27 +61,29 @@ fn read_line(
     ensures ok { OnOk result ((added : List Point) × (points.new.items ≡ points.old.items ++ added) × LineIs (seen_of kinds.old) moment line.now (Ok (record { points = added; seen = seen_of kinds.new }))) }
     ensures refused { IfErr result (λ refusal. IsRefusal refusal (λ code. LineIs (seen_of kinds.old) moment line.now (Err code))) }
 {
-    let (head, behind) = cut(line, b' ');
-    match head_fault(head) {
-        Some(code) => Err(Refusal::Code(code)),
-        None => {
-            let (fields, behind) = cut(without_spaces(behind), b' ');
-            if fields.is_empty() {
-                return Err(without_field(alloc, head));
+    match walk_head(line) {
+        Err(code) => Err(Refusal::Code(code)),
+        Ok(walk) => {
+            let text = without_spaces(walk.behind);
+            if text.is_empty() {
+                return Err(without_field(alloc, &walk));
             }
-            let head = read_head(alloc, head)?;
-            let time = without_spaces(behind);
-            read_behind(alloc, head, fields, time, moment, kinds, points)
+            let series = read_series(alloc, &walk)?;
+            read_behind(alloc, &walk, series, text, moment, kinds, points)
         }
     }
 }
 
 // Why a line without a field is refused.
-fn without_field(alloc: Global, head: &[u8]) -> Refusal
-    requires { IsSoundHead head.now }
-    ensures { IsRefusal result (λ code. ((code ≡ LineCode.DuplicateTag) × ¬ (KeysDiffer (tags_of head.now))) ⊎ ((code ≡ LineCode.NoField) × KeysDiffer (tags_of head.now))) }
+fn without_field(alloc: Global, walk: &Walk<'_>) -> Refusal
+    requires one_line { IsOneLine walk.now.head.now }
+    requires ascend { IsTrue walk.now.ascend → Ascend (tags_of walk.now.head.now) }
+    ensures { IsRefusal result (λ code. ((code ≡ LineCode.DuplicateTag) × ¬ (KeysDiffer (tags_of walk.now.head.now))) ⊎ ((code ≡ LineCode.NoField) × KeysDiffer (tags_of walk.now.head.now))) }
 {
-    match keys_differ(alloc, head) {
+    if walk.ascend {
+        return Refusal::Code(LineCode::NoField);
+    }
+    match keys_differ(alloc, walk.head) {
         Err(_) => Refusal::Memory,
         Ok(differ) => {
             if differ {
@@ -87,24 +94,25 @@ fn without_field(alloc: Global, head: &[u8]) -> Refusal
     }
 }
 
-// Reads what stands behind the head, and adds the points.
+// Reads what stands behind the head and its spaces, and adds the points.
 fn read_behind(
     alloc: Global,
-    head: Head,
-    fields: &[u8],
-    time: &[u8],
+    walk: &Walk<'_>,
+    series: SeriesKey,
+    text: &[u8],
     moment: Time,
     kinds: &mut Kinds,
     points: &mut Vec<Point>,
 ) -> Result<(), Refusal>
-    requires { IsOneLine fields.now }
-    ensures ok { OnOk result ((added : List Point) × (points.new.items ≡ points.old.items ++ added) × (rest_of (seen_of kinds.old) moment head.measurement head.reserved head.series fields.now time.now ≡ Ok (record { points = added; seen = seen_of kinds.new }))) }
-    ensures refused { IfErr result (λ refusal. Refuses refusal (rest_of (seen_of kinds.old) moment head.measurement head.reserved head.series fields.now time.now)) }
+    requires one_line { IsOneLine (front 32 false text.now) }
+    requires utf8 { IsUtf8 walk.now.measurement.now }
+    ensures ok { OnOk result ((added : List Point) × (points.new.items ≡ points.old.items ++ added) × (rest_of (seen_of kinds.old) moment (unescaped measurement_ends_at walk.now.measurement.now) walk.now.reserved series (front 32 false text.now) (unspaced (part.rest 32 false text.now)) ≡ Ok (record { points = added; seen = seen_of kinds.new }))) }
+    ensures refused { IfErr result (λ refusal. Refuses refusal (rest_of (seen_of kinds.old) moment (unescaped measurement_ends_at walk.now.measurement.now) walk.now.reserved series (front 32 false text.now) (unspaced (part.rest 32 false text.now)))) }
 {
-    match read_rest(alloc, &head, fields, time, moment, kinds) {
+    match read_rest(alloc, walk, &series, text, moment, kinds) {
         Err(refusal) => Err(refusal),
         Ok((fields, time)) => {
-            add_points(&head.series, fields, time, points)?;
+            add_points(series, fields, time, points)?;
             Ok(())
         }
     }
@@ -114,20 +122,21 @@ fn read_behind(
 #[tactic(auto, unfolding(crate::specs::Lines::rest_of))]
 fn read_rest(
     alloc: Global,
-    head: &Head,
-    fields: &[u8],
-    time: &[u8],
+    walk: &Walk<'_>,
+    series: &SeriesKey,
+    text: &[u8],
     moment: Time,
     kinds: &mut Kinds,
 ) -> Result<(Vec<Field>, Time), Refusal>
-    requires { IsOneLine fields.now }
-    ensures { Gives (λ found. record { points = points_of found.1 head.now.series found.0.items; seen = seen_of kinds.new }) result (rest_of (seen_of kinds.old) moment head.now.measurement head.now.reserved head.now.series fields.now time.now) }
+    requires one_line { IsOneLine (front 32 false text.now) }
+    requires utf8 { IsUtf8 walk.now.measurement.now }
+    ensures { Gives (λ found. record { points = points_of found.1 series.now found.0.items; seen = seen_of kinds.new }) result (rest_of (seen_of kinds.old) moment (unescaped measurement_ends_at walk.now.measurement.now) walk.now.reserved series.now (front 32 false text.now) (unspaced (part.rest 32 false text.now))) }
 {
-    let fields = read_fields(alloc, fields)?;
-    let time = read_time(time, moment)?;
-    names_step(head.reserved, fields.as_slice())?;
-    keys_step(&head.series, fields.as_slice())?;
-    kinds.note_all(alloc, &head.measurement, fields.as_slice())?;
+    let (fields, behind) = read_fields(alloc, text)?;
+    let time = read_time(without_spaces(behind), moment)?;
+    names_step(walk.reserved, fields.as_slice())?;
+    keys_step(series, fields.as_slice())?;
+    kinds.note_all(alloc, walk.measurement, fields.as_slice())?;
     Ok((fields, time))
 }
 
@@ -214,7 +223,25 @@ fn refusal_of(fault: KeyFault) -> Refusal
     }
 }
 
+// Adds a point for each field; the last one takes the key of the series.
 fn add_points(
+    series: SeriesKey,
+    mut fields: Vec<Field>,
+    time: Time,
+    points: &mut Vec<Point>,
+) -> Result<(), AllocError>
+    ensures { OnOk result (points.new.items ≡ points.old.items ++ points_of time series fields.items) }
+{
+    match fields.pop() {
+        None => Ok(()),
+        Some(last) => {
+            carry_points(&series, fields, time, points)?;
+            push_point(series, last, time, points)
+        }
+    }
+}
+
+fn carry_points(
     series: &SeriesKey,
     fields: Vec<Field>,
     time: Time,
@@ -223,20 +250,19 @@ fn add_points(
     ensures { OnOk result (points.new.items ≡ points.old.items ++ points_of time series.now fields.items) }
 {
     for field in fields {
-        push_point(series, field, time, points)?;
+        push_point(series.carry()?, field, time, points)?;
     }
     Ok(())
 }
 
 fn push_point(
-    series: &SeriesKey,
+    series: SeriesKey,
     field: Field,
     time: Time,
     points: &mut Vec<Point>,
 ) -> Result<(), AllocError>
-    ensures { OnOk result (points.new.items ≡ points.old.items ++ points_of time series.now (field ∷ [])) }
+    ensures { OnOk result (points.new.items ≡ points.old.items ++ points_of time series (field ∷ [])) }
 {
-    let series = series.carry()?;
     let Field { name, value } = field;
     let cell = Cell {
         time,

@@ -81,3 +81,18 @@ fn long_lines_are_dropped_to_their_end(rt: HostRuntime) -> Result<(), Fail> {
     assert_eq!(rt; report.requests, 5);
     Ok(())
 }
+
+#[test]
+fn what_is_no_text_is_refused(rt: HostRuntime) -> Result<(), Fail> {
+    let input =
+        b"INSERT cpu v=1i 10\nINSERT c\xffpu v=2i 20\n\xc3\nBATCH 2\ncpu v=3i 30\n# \xff\nSELECT v FROM cpu\n";
+    let (report, sink) = served(&rt, &mut PlainStore::new(rt.alloc(), 0), input, &[], &[])?;
+    let wanted =
+        b"ok 1\nerror S3 NotText\nerror S3 NotText\nerror S3 NotText\nat 1\nname: cpu\ntime v\n10 1\n.\n";
+    assert_eq!(rt; sink.bytes(), wanted.as_slice());
+    assert_eq!(rt;
+        (report.requests, report.last, report.end),
+        (5, 1, End::Read)
+    );
+    Ok(())
+}

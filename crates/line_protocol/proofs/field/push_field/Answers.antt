@@ -7,6 +7,6 @@ use Rattle.line_protocol.proofs.field.push_field.Goals as goal
 pub returns-in_ok-push-in-Ok-clause-ok : goal.returns-in_ok-push-in-Ok-clause-ok
 returns-in_ok-push-in-Ok-clause-ok c = λ more.
     let old = c.args.fields.now.items in
-    ap (λ r. prefixed old (first_before r more)) c.in-Ok.ensures
+    ap (λ r. prefixed old (first_before r more)) c.in-Ok.ensures.field
     ∙ prefixed-push old c.in-Ok.field more
     ∙ ap (λ (fs : List Field). prefixed fs more) (sym c.in_ok-push-in-Ok.ensures.items)

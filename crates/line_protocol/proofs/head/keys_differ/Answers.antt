@@ -1,29 +1,23 @@
-use Rattle.std.proofs.Common.{false, List, ℕ, map, sym, ap, subst, refl, ◌∙◌}
-use Rattle.std.proofs.lemmas.Bool.{false≢true}
-use Rattle.line_protocol.specs.Heads.{tag_of}
+use Rattle.std.proofs.Common.{ℕ, false, List, sym, subst, lit<}
+use Rattle.std.specs.List.Sorted.{IsPermutation}
 use Rattle.line_protocol.specs.Parts.{parts_behind}
-use Rattle.line_protocol.proofs.HeadLemmas.{differ-stable, head-keys, keys-head}
-use Rattle.line_protocol.specs.Texts.{HoldsTags}
-use Rattle.line_protocol.proofs.TextLemmas.{head-tags, any-name}
+use Rattle.line_protocol.specs.Sorted.{texts_of}
+use Rattle.line_protocol.specs.Texts.{IsOneLine, StartsAscii}
+use Rattle.line_protocol.proofs.SortedLemmas.{PartsAscend, ascend-differ}
+use Rattle.line_protocol.proofs.TextLemmas.{parts-line, rest-starts}
 use Rattle.line_protocol.proofs.head.keys_differ.Goals as goal
 
-pub read_tags-requires : goal.read_tags-requires
-read_tags-requires c =
-    subst (λ (t : List ℕ). HoldsTags false t) (sym c.cut.ensures.rest) (head-tags false c.args.head.now c.requires (λ e. absurd (false≢true e)))
+pub sorted_parts-requires-clause-start : goal.sorted_parts-requires-clause-start
+sorted_parts-requires-clause-start c = subst (λ (t : List ℕ). StartsAscii t) (sym c.cut.ensures.rest) (rest-starts 44 false c.args.head.now (lit< tt))
 
-pub name_of-requires : goal.name_of-requires
-name_of-requires c = any-name
+pub sorted_parts-requires-clause-one_line : goal.sorted_parts-requires-clause-one_line
+sorted_parts-requires-clause-one_line c = subst (λ (t : List ℕ). IsOneLine t) (sym c.cut.ensures.rest) (parts-line 44 c.args.head.now (lit< tt) c.requires).1
 
-pub returns-in-Ok : goal.returns-in-Ok
-returns-in-Ok c =
-    let same = c.new.ensures ∙ c.in_ok-tags.ensures ∙ ap (λ (t : List ℕ). map (tag_of false) (parts_behind 44 t)) c.cut.ensures.rest in (
-      λ _. head-keys c.args.head.now c.new.result same (differ-stable c.new.result (λ not. let is = c.in-Ok.ensures.duplicate_tag.1 not in cc)),
-      λ _. refl,
-    )
-
-pub returns-in-Err-DuplicateTag : goal.returns-in-Err-DuplicateTag
-returns-in-Err-DuplicateTag c =
-    let same = c.new.ensures ∙ c.in_ok-tags.ensures ∙ ap (λ (t : List ℕ). map (tag_of false) (parts_behind 44 t)) c.cut.ensures.rest in (
-      λ e. absurd (false≢true e),
-      λ differ. absurd (c.in-Err-DuplicateTag.ensures.duplicate_tag.0 (cc) (keys-head c.args.head.now c.new.result same differ)),
+pub returns : goal.returns
+returns c =
+    let parts = c.in_ok-parts.parts.items in
+    let same = subst (λ (t : List ℕ). IsPermutation (parts_behind 44 t) (texts_of parts)) c.cut.ensures.rest c.in_ok-parts.ensures.same in
+    let both = ascend-differ c.args.head.now parts same c.in_ok-parts.ensures.cut c.in_ok-parts.ensures.sorted in (
+      λ is. both.0 (subst PartsAscend c.as_slice.ensures.value (c.ascend.ensures.0 is)),
+      λ differ. c.ascend.ensures.1 (subst PartsAscend (sym c.as_slice.ensures.value) (both.1 differ)),
     )

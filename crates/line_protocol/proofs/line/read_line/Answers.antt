@@ -1,63 +1,72 @@
-use Rattle.std.proofs.Common.{◌≡◌, ℕ, false, List, sym, ap, subst, ◌∙◌}
+use Rattle.std.proofs.Common.{◌≡◌, ◌≢◌, ℕ, [], false, List, sym, ap, ◌∙◌}
 use Rattle.std.proofs.lemmas.Result.{err_from_is_err_and}
-use Rattle.line_protocol.specs.Heads.{head_code}
+use Rattle.tsdb_types.specs.Series.{measurement_ends_at}
+use Rattle.tsdb_types.specs.Spelled.{unescaped}
 use Rattle.line_protocol.specs.Kinds.{seen_of}
 use Rattle.line_protocol.specs.Parts.{front, rest, unspaced}
-use Rattle.line_protocol.proofs.LineLemmas.{head-faulty, line-unfilled, line-twice, filled-ok, filled-refused, filled-some, filled-none}
-use Rattle.line_protocol.specs.Lines.{fields_text}
-use Rattle.line_protocol.specs.Texts.{IsClosed}
-use Rattle.line_protocol.proofs.ClosedLemmas.{head-closed}
-use Rattle.line_protocol.proofs.TextLemmas.{line-head, line-fields}
+use Rattle.line_protocol.proofs.LineLemmas.{head-faulty, line-unfilled, line-twice, filled-ok, filled-refused, filled-some, filled-none, unspaced-some}
+use Rattle.line_protocol.proofs.TextLemmas.{head-line, line-fields, measurement-utf8}
 use Rattle.line_protocol.proofs.line.read_line.Goals as goal
 
-pub without_field-requires : goal.without_field-requires
-without_field-requires c = line-head c.args.line.now c.cut.result.0.now c.requires c.cut.ensures.front c.in-None.ensures
+pub without_field-requires-clause-one_line : goal.without_field-requires-clause-one_line
+without_field-requires-clause-one_line c = head-line c.args.line.now c.in-Ok.walk.head.now c.requires c.in-Ok.ensures.ok.head_is
 
-pub read_head-requires-clause-sound : goal.read_head-requires-clause-sound
-read_head-requires-clause-sound c = line-head c.args.line.now c.cut.result.0.now c.requires c.cut.ensures.front c.in-None.ensures
+pub read_series-requires-clause-one_line : goal.read_series-requires-clause-one_line
+read_series-requires-clause-one_line c = head-line c.args.line.now c.in-Ok.walk.head.now c.requires c.in-Ok.ensures.ok.head_is
 
-pub read_head-requires-clause-closed : goal.read_head-requires-clause-closed
-read_head-requires-clause-closed c =
-    let behind = c.without_spaces.ensures ∙ ap unspaced c.cut.ensures.rest in
-    let fields : c.cut-in-None.result.0.now ≡ fields_text c.args.line.now = c.cut-in-None.ensures.front ∙ ap (λ (t : List ℕ). front 32 false t) behind in
-    let some = filled-some c.cut-in-None.result.0.now (sym c.is_empty.ensures ∙ c.if-is_empty.false) in
-    subst (λ (t : List ℕ). IsClosed t) (sym c.cut.ensures.front) (head-closed c.args.line.now (λ none. some (fields ∙ none)))
+pub read_series-requires-clause-named : goal.read_series-requires-clause-named
+read_series-requires-clause-named c =
+    let some = filled-some c.without_spaces-text.result.now (sym c.is_empty.ensures ∙ c.if-is_empty.false) in
+    let something : c.in-Ok.walk.behind.now ≢ [] = λ none. some (c.without_spaces-text.ensures ∙ ap unspaced none) in
+    c.in-Ok.ensures.ok.named something
 
-pub read_behind-requires : goal.read_behind-requires
-read_behind-requires c =
-    let behind = c.without_spaces.ensures ∙ ap unspaced c.cut.ensures.rest in
-    line-fields c.args.line.now c.cut-in-None.result.0.now c.requires (c.cut-in-None.ensures.front ∙ ap (λ (t : List ℕ). front 32 false t) behind)
+pub read_behind-requires-clause-one_line : goal.read_behind-requires-clause-one_line
+read_behind-requires-clause-one_line c =
+    line-fields c.args.line.now (front 32 false c.without_spaces-text.result.now) c.requires
+    (ap (λ (t : List ℕ). front 32 false t) (c.without_spaces-text.ensures ∙ ap unspaced c.in-Ok.ensures.ok.behind_is))
 
-pub returns-in-Some-clause-refused : goal.returns-in-Some-clause-refused
-returns-in-Some-clause-refused c =
-    head-faulty (seen_of c.args.kinds.now) c.args.moment c.args.line.now c.in-Some.code (c.in-Some.ensures ∙ ap head_code c.cut.ensures.front)
+pub read_behind-requires-clause-utf8 : goal.read_behind-requires-clause-utf8
+read_behind-requires-clause-utf8 c = measurement-utf8 c.args.line.now c.in-Ok.walk.head.now c.in-Ok.walk.measurement.now c.requires c.in-Ok.ensures.ok.head_is c.in-Ok.ensures.ok.measurement_is
+
+pub returns-in-Err-clause-refused : goal.returns-in-Err-clause-refused
+returns-in-Err-clause-refused c = head-faulty (seen_of c.args.kinds.now) c.args.moment c.args.line.now c.in-Err.code (sym c.in-Err.ensures.refused)
 
 pub returns-then-is_empty-clause-refused : goal.returns-then-is_empty-clause-refused
 returns-then-is_empty-clause-refused c =
-    let behind = c.without_spaces.ensures ∙ ap unspaced c.cut.ensures.rest in
-    line-unfilled (seen_of c.args.kinds.now) c.args.moment c.args.line.now c.cut.result.0.now c.cut-in-None.result.0.now c.without_field.result
-    c.in-None.ensures c.cut.ensures.front (c.cut-in-None.ensures.front ∙ ap (λ (t : List ℕ). front 32 false t) behind)
-    (filled-none c.cut-in-None.result.0.now (sym c.is_empty.ensures ∙ c.if-is_empty.true)) c.without_field.ensures
+    let walk = c.in-Ok.ensures.ok in
+    let behind = c.without_spaces-text.ensures ∙ ap unspaced walk.behind_is in
+    let none : c.without_spaces-text.result.now ≡ [] = filled-none c.without_spaces-text.result.now (sym c.is_empty.ensures ∙ c.if-is_empty.true) in
+    line-unfilled (seen_of c.args.kinds.now) c.args.moment c.args.line.now c.in-Ok.walk.head.now (front 32 false c.without_spaces-text.result.now) c.without_field.result
+    (sym walk.sound) walk.head_is (ap (λ (t : List ℕ). front 32 false t) behind) (ap (λ (t : List ℕ). front 32 false t) none) c.without_field.ensures
 
-pub returns-in_err-head-in-None-clause-refused : goal.returns-in_err-head-in-None-clause-refused
-returns-in_err-head-in-None-clause-refused c =
+pub returns-in_err-series-in-Ok-clause-refused : goal.returns-in_err-series-in-Ok-clause-refused
+returns-in_err-series-in-Ok-clause-refused c =
+    let walk = c.in-Ok.ensures.ok in
     let p = err_from_is_err_and c.from_residual.result c.from_residual.ensures.1 in
-    rw (p.1, p.2) (line-twice (seen_of c.args.kinds.now) c.args.moment c.args.line.now c.cut.result.0.now _ c.in-None.ensures c.cut.ensures.front c.in_err-head-in-None.ensures.refused)
+    rw (p.1, p.2) (line-twice (seen_of c.args.kinds.now) c.args.moment c.args.line.now c.in-Ok.walk.head.now _ (sym walk.sound) walk.head_is c.in_err-series-in-Ok.ensures.refused)
 
-pub returns-in_ok-head-in-None-clause-ok : goal.returns-in_ok-head-in-None-clause-ok
-returns-in_ok-head-in-None-clause-ok c =
-    let behind = c.without_spaces.ensures ∙ ap unspaced c.cut.ensures.rest in
-    filled-ok c.read_behind.result (seen_of c.args.kinds.now) (seen_of c.read_behind.new.kinds) c.args.moment c.args.line.now c.cut.result.0.now c.cut-in-None.result.0.now c.without_spaces-time.result.now c.in_ok-head-in-None.head c.args.points.now.items c.read_behind.new.points.items
-    c.in-None.ensures c.cut.ensures.front (c.cut-in-None.ensures.front ∙ ap (λ (t : List ℕ). front 32 false t) behind)
-    (filled-some c.cut-in-None.result.0.now (sym c.is_empty.ensures ∙ c.if-is_empty.false))
-    (c.without_spaces-time.ensures ∙ ap unspaced (c.cut-in-None.ensures.rest ∙ ap (λ (t : List ℕ). rest 32 false t) behind))
-    c.in_ok-head-in-None.ensures.ok c.read_behind.ensures.ok
+pub returns-in_ok-series-in-Ok-clause-ok : goal.returns-in_ok-series-in-Ok-clause-ok
+returns-in_ok-series-in-Ok-clause-ok c =
+    let walk = c.in-Ok.ensures.ok in
+    let text = c.without_spaces-text.result.now in
+    let behind = c.without_spaces-text.ensures ∙ ap unspaced walk.behind_is in
+    filled-ok c.read_behind.result (seen_of c.args.kinds.now) (seen_of c.read_behind.new.kinds) c.args.moment c.args.line.now c.in-Ok.walk.head.now (front 32 false text) (unspaced (rest 32 false text))
+    (unescaped measurement_ends_at c.in-Ok.walk.measurement.now) c.in-Ok.walk.reserved c.in_ok-series-in-Ok.series c.args.points.now.items c.read_behind.new.points.items
+    (sym walk.sound) walk.head_is (ap (λ (t : List ℕ). front 32 false t) behind)
+    (unspaced-some c.in-Ok.walk.behind.now text c.without_spaces-text.ensures (sym c.is_empty.ensures ∙ c.if-is_empty.false))
+    (ap (λ (t : List ℕ). unspaced (rest 32 false t)) behind)
+    (record { measurement_is = ap (λ (t : List ℕ). unescaped measurement_ends_at t) walk.measurement_is; reserved_is = walk.reserves; key = c.in_ok-series-in-Ok.ensures.ok })
+    c.read_behind.ensures.ok
 
-pub returns-in_ok-head-in-None-clause-refused : goal.returns-in_ok-head-in-None-clause-refused
-returns-in_ok-head-in-None-clause-refused c =
-    let behind = c.without_spaces.ensures ∙ ap unspaced c.cut.ensures.rest in
-    filled-refused c.read_behind.result (seen_of c.args.kinds.now) c.args.moment c.args.line.now c.cut.result.0.now c.cut-in-None.result.0.now c.without_spaces-time.result.now c.in_ok-head-in-None.head
-    c.in-None.ensures c.cut.ensures.front (c.cut-in-None.ensures.front ∙ ap (λ (t : List ℕ). front 32 false t) behind)
-    (filled-some c.cut-in-None.result.0.now (sym c.is_empty.ensures ∙ c.if-is_empty.false))
-    (c.without_spaces-time.ensures ∙ ap unspaced (c.cut-in-None.ensures.rest ∙ ap (λ (t : List ℕ). rest 32 false t) behind))
-    c.in_ok-head-in-None.ensures.ok c.read_behind.ensures.refused
+pub returns-in_ok-series-in-Ok-clause-refused : goal.returns-in_ok-series-in-Ok-clause-refused
+returns-in_ok-series-in-Ok-clause-refused c =
+    let walk = c.in-Ok.ensures.ok in
+    let text = c.without_spaces-text.result.now in
+    let behind = c.without_spaces-text.ensures ∙ ap unspaced walk.behind_is in
+    filled-refused c.read_behind.result (seen_of c.args.kinds.now) c.args.moment c.args.line.now c.in-Ok.walk.head.now (front 32 false text) (unspaced (rest 32 false text))
+    (unescaped measurement_ends_at c.in-Ok.walk.measurement.now) c.in-Ok.walk.reserved c.in_ok-series-in-Ok.series
+    (sym walk.sound) walk.head_is (ap (λ (t : List ℕ). front 32 false t) behind)
+    (unspaced-some c.in-Ok.walk.behind.now text c.without_spaces-text.ensures (sym c.is_empty.ensures ∙ c.if-is_empty.false))
+    (ap (λ (t : List ℕ). unspaced (rest 32 false t)) behind)
+    (record { measurement_is = ap (λ (t : List ℕ). unescaped measurement_ends_at t) walk.measurement_is; reserved_is = walk.reserves; key = c.in_ok-series-in-Ok.ensures.ok })
+    c.read_behind.ensures.refused
