@@ -1,5 +1,5 @@
 -- A file has its own index, and each key its own points.
-use Rattle.std.proofs.Common.{Option, None, Some, ◌⊎◌, ⊎_elim, Bool, true, false, cond, map, ◌≡◌, ◌≢◌, ℕ, zero, suc, ◌+◌, ◌<◌, ◌≤◌, List, [], ◌∷◌, ◌++◌, length, take, drop, get_or, inl, inr, refl, sym, ap, ◌∙◌, subst, arith}
+use Rattle.std.proofs.Common.{Option, None, Some, ◌⊎◌, ⊎_elim, Bool, true, false, cond, map, ◌≡◌, ◌≢◌, ℕ, suc, ◌+◌, List, [], ◌∷◌, ◌++◌, length, take, drop, get_or, inl, inr, refl, sym, ap, ◌∙◌, subst, arith}
 use Rattle.std.specs.Prelude.{All, Contains, filter}
 use Rattle.std.specs.Bool.{Decides}
 use Rattle.std.specs.Ordering.{is_eq, nat_cmp}
@@ -21,13 +21,13 @@ use Rattle.block_codec.specs.Blocks.{coded_block}
 use Rattle.tsm_format.specs.declared.row.KeyRow.{KeyRow}
 use Rattle.tsm_format.specs.Format.{index_bytes}
 use Rattle.tsm_format.specs.Frame.{header}
-use Rattle.tsm_format.specs.Rows.{AreIndex, AreRows, end_of, first_block, size_of}
+use Rattle.tsm_format.specs.Rows.{AreIndex, AreRows, end_of, first_block}
 use Rattle.point_model.specs.Rows.{Row}
 use Rattle.tsm_file.specs.declared.facts.TsmFacts.{TsmFacts}
 use Rattle.tsm_file.specs.Writing.{IsOutput, IsReadBack}
 use Rattle.tsm_file.specs.ReadIndex.{Index, HasIndex, HasKey, LacksKey}
 use Rattle.tsm_file.specs.ReadBlocks.{HavePoints, IsBlockOf, KeyHas, Spans, held_at}
-use Rattle.tsm_file.specs.Written.{IsFile, IsHeld, KeyBlocks, KeyedPoint, all_blocks, all_points, keyed, points_under, block_bytes, entries_of, entry_of, file_bytes, index_at, joined, key_bytes, row_of, rows_of}
+use Rattle.tsm_file.specs.Written.{IsFile, IsHeld, KeyBlocks, KeyedPoint, all_blocks, all_points, keyed, points_under, block_bytes, entries_of, entry_of, index_at, joined, key_bytes, row_of, rows_of}
 use Rattle.tsm_file.proofs.WrittenLemmas.{size-entries, sizes-rows}
 
 end_is : (keys : List KeyBlocks) → end_of (rows_of first_block keys) ≡ index_at keys

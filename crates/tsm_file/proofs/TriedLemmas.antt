@@ -16,7 +16,7 @@ use Rattle.tsdb_types.specs.declared.value.Kind.TheVariants.{Integer}
 use Rattle.tsdb_types.specs.declared.value.Value.TheVariants.{Int}
 use Rattle.tsm_format.specs.Rows.{IsAbove}
 use Rattle.tsm_file.specs.Written.{KeyedPoint}
-use Rattle.tsm_file.specs.Writing.{Follows, Holds, MayCome, count_of}
+use Rattle.tsm_file.specs.Writing.{Follows, Holds, MayCome}
 use Rattle.tsm_file.specs.Tried.{HasPushed}
 use Rattle.tsm_file.specs.declared.writer.TsmWriter.{TsmWriter}
 use Rattle.tsm_file.proofs.WrittenLemmas.{last_or-append}

@@ -1,10 +1,9 @@
 -- What a writer holds after each of its steps.
-use Rattle.std.proofs.Common.{◌≡◌, ◌≢◌, ℕ, ℤ, ◌+◌, ◌*◌, ◌<◌, ◌≤◌, ◌^◌, ◌≤ℤ◌, ◌<ℤ◌, ◌⊎◌, ⊎_elim, List, [], ◌∷◌, ◌++◌, length, map, Option, Some, None, IfSome, true, false, Bool, not, ◌==◌, Result, Ok, Err, OnOk, refl, sym, ap, ◌∙◌, subst, arith, rules}
+use Rattle.std.proofs.Common.{◌≡◌, ℕ, ℤ, ◌+◌, ◌<◌, ◌^◌, ◌<ℤ◌, ◌⊎◌, ⊎_elim, List, [], ◌∷◌, ◌++◌, length, map, Option, Some, None, IfSome, true, false, Bool, not, ◌==◌, Result, Ok, Err, OnOk, refl, sym, ap, ◌∙◌, subst, arith}
 use Rattle.std.specs.Prelude.{All, fold, max}
 use Rattle.std.specs.List.{flat_map, last_or}
 use Rattle.std.specs.Ordering.{is_eq, nat_cmp}
 use Rattle.std.specs.Str.{bytes_eq}
-use Rattle.std.specs.declared.cmp.Ordering.{Ordering}
 use Rattle.std.specs.declared.cmp.Ordering.TheVariants.{Less}
 use Rattle.std.specs.Cmp.Lexicographic.{slice_cmp}
 use Rattle.std.proofs.lemmas.Bool.{false≢true}
@@ -28,9 +27,8 @@ use Rattle.tsm_format.specs.Frame.{header}
 use Rattle.tsm_format.specs.Rows.{AreEntries, AreIndex, AreRows, IsAbove, IsEntry, IsLater, IsRow, end_of, first_block, size_of, sizes_of}
 use Rattle.tsm_format.proofs.RowLemmas.{last_key-push, rows_push as more_rows, sizes-push}
 use Rattle.point_model.specs.Rows.{Row}
-use Rattle.tsm_file.specs.ReadBlocks.{last_time}
-use Rattle.tsm_file.specs.Written.{AreCut, AreKeys, IsCut, IsFile, IsHeld, KeyBlocks, KeyedPoint, all_blocks, all_points, block_bytes, entries_of, entry_of, file_bytes, first_time, index_at, joined, key_bytes, keyed, row_of, rows_of}
-use Rattle.tsm_file.specs.Writing.{AreDone, AreFacts, Continues, Follows, IsBegun, IsClosed, IsNew, IsOpen, IsOutput, MayCome, count_of, end_time, most_blocks}
+use Rattle.tsm_file.specs.Written.{AreKeys, IsCut, IsHeld, KeyBlocks, KeyedPoint, all_blocks, all_points, block_bytes, entries_of, entry_of, index_at, joined, key_bytes, keyed, row_of, rows_of}
+use Rattle.tsm_file.specs.Writing.{AreDone, Continues, Follows, IsBegun, IsClosed, IsNew, IsOpen, IsOutput, MayCome, count_of, end_time}
 use Rattle.tsm_file.specs.Steps.{EndsBlock, IsEnded, MayBegin, MayGoOn}
 use Rattle.tsm_file.specs.declared.facts.TsmFacts.{TsmFacts}
 use Rattle.tsm_file.specs.declared.writer.TsmWriter.{TsmWriter}

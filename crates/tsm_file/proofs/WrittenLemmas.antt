@@ -1,5 +1,5 @@
 -- Files grow by a block, by a point, and by a key.
-use Rattle.std.proofs.Common.{◌≡◌, ◌≢◌, ℕ, ℤ, ◌+◌, ◌*◌, ◌<◌, ◌≤◌, ◌^◌, ◌≤ℤ◌, ◌<ℤ◌, List, [], ◌∷◌, ◌++◌, length, map, Option, Some, None, refl, sym, ap, ◌∙◌, subst, arith, rules}
+use Rattle.std.proofs.Common.{◌≡◌, ℕ, ℤ, ◌+◌, ◌*◌, ◌<◌, ◌≤◌, ◌^◌, ◌≤ℤ◌, ◌<ℤ◌, List, [], ◌∷◌, ◌++◌, length, Option, Some, None, refl, sym, ap, ◌∙◌, subst, arith, rules}
 use Rattle.std.specs.Prelude.{All}
 use Rattle.std.specs.List.{flat_map, last_or}
 use Rattle.std.proofs.lemmas.Int.{ints}
@@ -11,18 +11,17 @@ use Rattle.fixed_width.proofs.Fronts.{length-u32}
 use Rattle.tsdb_types.specs.Moments.{IsMoment}
 use Rattle.tsdb_types.specs.Values.{kind_of}
 use Rattle.tsdb_types.specs.declared.value.Kind.{Kind}
-use Rattle.tsdb_types.specs.declared.value.Value.{Value}
 use Rattle.word_codec.specs.Crc32.{crc32_of}
-use Rattle.time_codec.specs.Times.{Ascend, AreTimes}
+use Rattle.time_codec.specs.Times.{Ascend}
 use Rattle.value_codec.specs.Coding.{AreOf, IsInRange}
-use Rattle.block_codec.specs.Blocks.{ArePoints, coded_block, times_of, values_of}
+use Rattle.block_codec.specs.Blocks.{coded_block, times_of, values_of}
 use Rattle.tsm_format.specs.declared.entry.Entry.{Entry}
 use Rattle.tsm_format.specs.declared.row.KeyRow.{KeyRow}
 use Rattle.tsm_format.specs.Rows.{AreEntries, IsEntry, IsLater, size_of, sizes_of}
 use Rattle.tsm_format.proofs.EntryLemmas.{entries_push as entries_more, last_time as time_before}
 use Rattle.point_model.specs.Rows.{Row}
 use Rattle.tsm_file.specs.ReadBlocks.{last_time}
-use Rattle.tsm_file.specs.Written.{IsHeld, KeyBlocks, KeyedPoint, all_blocks, all_points, block_bytes, entries_of, entry_of, first_time, joined, key_bytes, keyed, row_of, rows_of}
+use Rattle.tsm_file.specs.Written.{IsHeld, KeyBlocks, KeyedPoint, all_blocks, block_bytes, entries_of, entry_of, first_time, joined, key_bytes, keyed, row_of, rows_of}
 use Rattle.tsm_file.specs.Writing.{count_of, end_time}
 use Rattle.std.proofs.lemmas.Cmp.{nat_list_eq_equiv}
 use Rattle.std.proofs.Common.{cond, Bool}

@@ -1,5 +1,5 @@
 // Blocks as they stand in a file.
-ghost use Rattle.std.specs.Prelude.{◌≡◌, ◌≢◌, ◌+◌, ◌<◌, ◌^◌, [], max, fold, map, length, All, OnOk, IfSome};
+ghost use Rattle.std.specs.Prelude.{◌≡◌, ◌≢◌, ◌+◌, ◌<◌, ◌≤◌, ◌^◌, ◌⊎◌, [], max, fold, map, length, All, OnOk, IfSome, IfNone};
 ghost use Rattle.tsdb_types.specs.Moments.{IsMoment};
 ghost use Rattle.tsdb_types.specs.Values.{kind_of};
 ghost use Rattle.tsdb_types.specs.declared.value.Kind.{Kind};
@@ -52,6 +52,7 @@ pub fn entry_at(points: &[(Time, Value)], offset: u64, size: u32) -> Entry
 pub fn room_behind(place: u64, size: usize) -> Option<(u32, u64)>
     ensures is { IfSome result (λ room. (room.0 ≡ size) × (room.1 ≡ place + size)) }
     ensures fits { IfSome result (λ room. (room.0 < 2 ^ 32) × (room.1 < 2 ^ 64)) }
+    ensures none { IfNone result ((2 ^ 32 ≤ size) ⊎ (2 ^ 64 ≤ place + size)) }
 {
     let size = u32::try_from(size).ok()?;
     let end = place.checked_add(u64::from(size))?;

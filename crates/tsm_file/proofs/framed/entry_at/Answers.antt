@@ -1,4 +1,4 @@
-use Rattle.std.proofs.Common.{◌≡◌, ◌≢◌, ℕ, ℤ, zero, suc, ◌+◌, ◌-◌, List, [], ◌∷◌, length, get_or, refl, arith}
+use Rattle.std.proofs.Common.{◌≡◌, ◌≢◌, ℕ, ℤ, zero, suc, ◌-◌, List, [], ◌∷◌, length, get_or, refl, arith}
 use Rattle.tsm_format.specs.declared.entry.Entry.{Entry}
 use Rattle.point_model.specs.Rows.{Row}
 use Rattle.tsm_file.specs.ReadBlocks.{last_time}

@@ -1,4 +1,4 @@
-use Rattle.std.proofs.Common.{◌≡◌, ℕ, List, [], ◌++◌, ◌∙◌, ap}
+use Rattle.std.proofs.Common.{◌≡◌, ℕ, List, ◌++◌, ◌∙◌, ap}
 use Rattle.fixed_width.specs.Fields.{bytes_of_u32}
 use Rattle.word_codec.specs.Crc32.{crc32_of}
 use Rattle.block_codec.specs.Blocks.{coded_block}

@@ -1,4 +1,4 @@
-use Rattle.std.proofs.Common.{◌+◌, ◌<◌, None, Some, refl, arith}
+use Rattle.std.proofs.Common.{◌+◌, None, Some, refl, arith}
 use Rattle.tsm_file.proofs.writer_tests.fill.Goals as goal
 
 pub push_run-requires-clause-mark : goal.push_run-requires-clause-mark

@@ -1,4 +1,4 @@
-use Rattle.std.proofs.Common.{◌≡◌, ℕ, List, Option, pos, arith, ◌+◌, ◌*◌, ◌<◌}
+use Rattle.std.proofs.Common.{◌≡◌, pos, arith, ◌+◌, ◌*◌, ◌<◌}
 use Rattle.std.specs.Prelude.{IsTrue}
 use Rattle.tsm_file.proofs.TriedLemmas.{run_may, run_more, time_of}
 use Rattle.tsm_file.proofs.writer_tests.push_run.Goals as goal

@@ -1,4 +1,4 @@
-use Rattle.std.proofs.Common.{◌≡◌, ◌≤◌, ◌<◌, ℕ, length, refl, arith}
+use Rattle.std.proofs.Common.{◌≡◌, ◌<◌, length, refl, arith}
 use Rattle.std.specs.Prelude.{IsTrue}
 use Rattle.tsm_file.proofs.WrittenLemmas.{held_most}
 use Rattle.tsm_file.proofs.WritingLemmas.{goes_full, goes_on}

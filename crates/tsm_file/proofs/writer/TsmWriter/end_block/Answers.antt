@@ -1,4 +1,4 @@
-use Rattle.std.proofs.Common.{◌≡◌, ◌+◌, ◌<◌, ◌^◌, ◌∷◌, ◌++◌, [], List, ℕ, length, subst, sym, ap, ◌∙◌, refl, arith}
+use Rattle.std.proofs.Common.{◌≡◌, ◌+◌, ◌∷◌, ◌++◌, [], List, ℕ, length, subst, sym, ap, ◌∙◌, refl, arith}
 use Rattle.value_codec.specs.Coding.{AreOf}
 use Rattle.block_codec.specs.Blocks.{values_of}
 use Rattle.point_model.specs.Rows.{Row}

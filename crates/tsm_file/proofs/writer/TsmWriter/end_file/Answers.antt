@@ -1,6 +1,5 @@
 use Rattle.std.proofs.Common.{◌≡◌, ◌++◌, ℕ, List, refl, ap, sym, subst, ◌∙◌}
 use Rattle.std.specs.Prelude.{IsTrue}
-use Rattle.tsm_format.specs.declared.row.KeyRow.{KeyRow}
 use Rattle.fixed_width.specs.Fields.{bytes_of_u64}
 use Rattle.tsm_format.specs.Format.{index_bytes}
 use Rattle.tsm_format.specs.Rows.{AreIndex, end_of}

@@ -1,4 +1,4 @@
-use Rattle.std.proofs.Common.{◌<◌, ◌^◌, List, None, length, subst, sym}
+use Rattle.std.proofs.Common.{◌<◌, ◌^◌, None, length, subst, sym}
 use Rattle.std.specs.Prelude.{All}
 use Rattle.tsm_format.specs.declared.row.KeyRow.{KeyRow}
 use Rattle.tsm_format.specs.Rows.{first_block}
