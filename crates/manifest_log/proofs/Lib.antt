@@ -1,0 +1,10 @@
+pub mod ChangeLemmas
+pub mod EditLemmas
+pub mod SoundLemmas
+pub mod ApplyLemmas
+pub mod FollowLemmas
+pub mod FoldLemmas
+pub mod LookLemmas
+pub mod OpenLemmas
+pub mod FirstLemmas
+pub mod OnceLemmas
