@@ -1,0 +1,11 @@
+pub mod CacheLemmas
+pub mod EntryLemmas
+pub mod FreezeLemmas
+pub mod LatestLemmas
+pub mod OrderLemmas
+pub mod PlainLemmas
+pub mod ResultLemmas
+pub mod SettleLemmas
+pub mod StateLemmas
+pub mod StepLemmas
+pub mod TakeLemmas

@@ -1,0 +1,15 @@
+use Rattle.std.proofs.Common.{sym, ◌∙◌, arith}
+use Rattle.point_cache.proofs.OrderLemmas.{range_within, range_empty, drop_front}
+use Rattle.point_cache.proofs.rows.range.Goals as goal
+
+pub returns-then-first-end-clause-within : goal.returns-then-first-end-clause-within
+returns-then-first-end-clause-within c = (range_within c.args.from c.args.to c.args.points.now c.before-first.result c.up_to-end.result c.if-first-end.true c.before-first.ensures.before c.before-first.ensures.behind c.up_to-end.ensures.before c.up_to-end.ensures.behind).0
+
+pub returns-then-first-end-clause-outside : goal.returns-then-first-end-clause-outside
+returns-then-first-end-clause-outside c = (range_within c.args.from c.args.to c.args.points.now c.before-first.result c.up_to-end.result c.if-first-end.true c.before-first.ensures.before c.before-first.ensures.behind c.up_to-end.ensures.before c.up_to-end.ensures.behind).1
+
+pub returns-else-first-end-clause-within : goal.returns-else-first-end-clause-within
+returns-else-first-end-clause-within c = drop_front c.args.points.now c.before-first.result ∙ sym (range_empty c.args.from c.args.to c.args.points.now c.before-first.result c.up_to-end.result (omega arith) c.before-first.ensures.before c.up_to-end.ensures.behind).0
+
+pub returns-else-first-end-clause-outside : goal.returns-else-first-end-clause-outside
+returns-else-first-end-clause-outside c = (range_empty c.args.from c.args.to c.args.points.now c.before-first.result c.up_to-end.result (omega arith) c.before-first.ensures.before c.up_to-end.ensures.behind).1

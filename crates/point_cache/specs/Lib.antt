@@ -1,0 +1,7 @@
+pub mod Cache
+pub mod Cached
+pub mod Calls
+pub mod Leaving
+pub mod Sorted
+pub mod Staged
+pub mod Steps
