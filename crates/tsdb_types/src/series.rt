@@ -4,6 +4,9 @@ ghost use Rattle.std.specs.Ordering.{nat_cmp};
 ghost use Rattle.std.specs.declared.cmp.Ordering.TheVariants.{Less};
 ghost use Rattle.std.specs.Cmp.Lexicographic.{pointwise, slice_cmp, nat_list_eq_equiv, nat_list_cmp_total, texts_ties, texts_po};
 ghost use Rattle.std.specs.Cmp.{partial_equiv_from_equiv};
+ghost use Rattle.std.specs.Cmp.Rules.{hashing};
+ghost use Rattle.std.specs.Hash as fed;
+ghost use Rattle.std.proofs.Common.{rules};
 ghost use Rattle.tsdb_types.specs.Names.{IsName};
 ghost use Rattle.tsdb_types.specs.Series.{is_one_of, escaped, measurement_ends_at, measurement_text, tags_text, series_text, Ascend, KeysDiffer, IsKeyOf, IsSeriesText, ReadsOnce, is_key_with, is_series_of};
 ghost use Rattle.tsdb_types.specs.declared.series.SeriesFault.TheVariants as series_fault;
@@ -12,6 +15,7 @@ use crate::spelled::is_series_text;
 use crate::{Name, Tag, Tags};
 use std::alloc::{AllocError, AllocFailed, Global};
 use std::cmp::Ordering;
+use std::hash::{Hash, Hasher};
 use std::marker::Model;
 use thiserror::Error;
 
@@ -274,5 +278,15 @@ impl Ord for SeriesKey {
 
     fn cmp(&self, other: &SeriesKey) -> Ordering {
         self.text().cmp(other.text())
+    }
+}
+
+impl Hash for SeriesKey {
+    ghost hash_input = { λ key. fed.str key };
+
+    ghost respects_eq = { Prim.search (hashing, rules) };
+
+    fn hash<H: Hasher>(&self, state: &mut H) {
+        self.text().hash(state);
     }
 }
