@@ -1,9 +1,10 @@
 -- The spelling of a number as groups that go on and a last one, and back.
 use Rattle.std.proofs.Common.{◌≡◌, ℕ, zero, suc, ◌+◌, ◌-◌, ◌*◌, ◌/◌, ◌%◌, ◌^◌, ◌<◌, ◌≤◌, List, [], ◌∷◌, ◌++◌, ◌⊎◌, inl, inr, length, take, drop, get_or, refl, sym, ◌∙◌, ap, subst, arith, append_assoc, length-append, add-one}
 use Rattle.std.specs.Prelude.{All}
+use Rattle.std.proofs.Math.Seq.{take-append_seam, drop-append_seam}
 use Rattle.std.proofs.Math.Nat.{pow-succ', pow-le-pow_right, mul-le-mul_right, mul-le-mul_left}
 use Rattle.std.proofs.lemmas.Bool.{cases_lt, cond_below, cond_above}
-use Rattle.std.proofs.lemmas.List.{drop_more, take_more, length-take-le, take_all, take-append-le, take-append-drop, length_push, length-take}
+use Rattle.std.proofs.lemmas.List.{drop_more, take_more, length-take-le, take_all, take-append-le, take-append-drop, length_push, length-take, take-take}
 use Rattle.std.proofs.lemmas.List.Elements.{All-nil, All-cons}
 use Rattle.word_codec.specs.Uvarint.{groups, uvarint, IsShort}
 
@@ -295,6 +296,26 @@ length_most number small = elim (cases_lt (length (shape number).front) 10) [
       let power = pow-le-pow_right {n = 128} (omega arith) {i = 10} {j = length (shape number).front} many in
       absurd (omega (arith, size, (shape number).value, small, power, mul-le-mul_left (128 ^ length (shape number).front) some))
 ]
+
+-- ---- the first ten bytes tell as much as all
+
+pub front_number : (bytes : List ℕ) (number : ℕ) (rest : List ℕ) → number < 2 ^ 64 → bytes ≡ uvarint number ++ rest → take 10 bytes ≡ uvarint number ++ drop (length (uvarint number)) (take 10 bytes)
+front_number bytes number rest small is =
+    let size = length (uvarint number) in
+    let front : take size (take 10 bytes) ≡ uvarint number =
+    take-take size 10 bytes (length_most number small) ∙ ap (take size) is ∙ take-append_seam (uvarint number) rest in
+    sym (take-append-drop size (take 10 bytes)) ∙ ap (λ ns. ns ++ drop size (take 10 bytes)) front
+
+pub whole_number : (bytes rest : List ℕ) (number : ℕ) → take 10 bytes ≡ uvarint number ++ rest → bytes ≡ uvarint number ++ (rest ++ drop 10 bytes)
+whole_number bytes rest number is =
+    sym (take-append-drop 10 bytes) ∙ ap (λ ns. ns ++ drop 10 bytes) is ∙ append_assoc (uvarint number) rest (drop 10 bytes)
+
+pub whole_found : (bytes : List ℕ) (number size : ℕ) → take 10 bytes ≡ uvarint number ++ drop size (take 10 bytes) → size ≡ length (uvarint number) → bytes ≡ uvarint number ++ drop size bytes
+whole_found bytes number size is same =
+    let rest = drop size (take 10 bytes) ++ drop 10 bytes in
+    let whole = whole_number bytes (drop size (take 10 bytes)) number is in
+    let left : drop size bytes ≡ rest = ap (λ (n : ℕ). drop n bytes) same ∙ ap (drop (length (uvarint number))) whole ∙ drop-append_seam (uvarint number) rest in
+    whole ∙ ap (λ ns. uvarint number ++ ns) (sym left)
 
 -- ---- one group more is written
 

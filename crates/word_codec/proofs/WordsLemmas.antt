@@ -1,9 +1,12 @@
 -- Words of eight bytes, and back.
-use Rattle.std.proofs.Common.{◌≡◌, ℕ, ◌+◌, ◌*◌, ◌^◌, ◌<◌, ◌≤◌, List, [], ◌∷◌, ◌++◌, length, take, drop, get_or, inl, inr, All, refl, sym, ◌∙◌, ap, arith, append_assoc, length-append}
+use Rattle.std.proofs.Common.{◌≡◌, ℕ, zero, suc, ◌%◌, ◌+◌, ◌*◌, ◌^◌, ◌<◌, ◌≤◌, List, [], ◌∷◌, ◌++◌, length, take, drop, get_or, inl, inr, All, refl, sym, ◌∙◌, ap, arith, append_assoc}
 use Rattle.std.specs.List.{flat_map}
 use Rattle.std.specs.Int.{to_be_bytes, from_be_bytes, w64}
-use Rattle.std.proofs.lemmas.Nat.{be_bytes_8, from_be_bytes-to_be_bytes_8}
-use Rattle.std.proofs.lemmas.List.{take_at, drop_at, take_more, take-append-drop, length-take-le, length-take, append-nil, get_or-take, get_or-append-add, get_or_past}
+use Rattle.byteorder.specs.Endian.{big_from, big_bytes, big_number, IsRead}
+use Rattle.byteorder.specs.Numbers.{big_from-lt}
+use Rattle.fixed_width.proofs.Fronts.{AreBytes, big_bytes-big_number}
+use Rattle.std.proofs.lemmas.Nat.{from_be_bytes-to_be_bytes_8}
+use Rattle.std.proofs.lemmas.List.{take_at, drop_at, take_more, take-append-drop, length-take-le, length-take, length-drop, drop-drop, append-nil, nil_from_length, get_or-take, get_or-drop, get_or_past, get_or_default, drop_all, take_all}
 use Rattle.std.proofs.lemmas.Bool.{cases_lt}
 use Rattle.std.proofs.lemmas.List.Concat.{flat_map-append}
 use Rattle.std.proofs.lemmas.List.Elements.{All-head, All-tail}
@@ -44,27 +47,46 @@ one_written words index start out new bytes below is pushed before =
     ∙ ap (λ (b : List ℕ). start ++ b) (sym (flat_map-append (to_be_bytes w64) (take index words) (get_or words index 0 ∷ [])))
     ∙ ap (λ (ws : List ℕ). start ++ flat_map (to_be_bytes w64) ws) (sym (take_more words index 0 below))
 
--- the next eight bytes are bytes
-pub next_bytes : (front rest bytes : List ℕ) → front ++ rest ≡ bytes → ((i : ℕ) → get_or bytes i 0 < 256) → (i : ℕ) → get_or (take 8 rest) i 0 < 256
-next_bytes front rest bytes is small i = elim (cases_lt i 8) [
-  | inl near ↦ omega (arith, get_or-take 8 rest i 0 near, get_or-append-add front rest i 0, ap (λ xs. get_or xs (length front + i) 0) is, small (length front + i))
-  | inr far ↦ omega (arith, get_or_past (take 8 rest) i 0 (omega (arith, length-take 8 rest, far)))
-]
+-- the number in the first bytes is told by those alone
+big_from-take : (n i : ℕ) (bytes : List ℕ) → big_from i n (take (i + n) bytes) ≡ big_from i n bytes
+big_from-take zero i bytes = refl
+big_from-take (suc n) i bytes =
+    let first : get_or (take (i + suc n) bytes) i 0 ≡ get_or bytes i 0 = get_or-take (i + suc n) bytes i 0 (omega arith) in
+    let rest : big_from (suc i) n (take (i + suc n) bytes) ≡ big_from (suc i) n bytes =
+    ap (λ (k : ℕ). big_from (suc i) n (take k bytes)) (let e : i + suc n ≡ suc i + n = omega arith in e) ∙ big_from-take n (suc i) bytes in
+    ap (λ (x : ℕ). x * 256 ^ n + big_from (suc i) n (take (i + suc n) bytes)) first ∙ ap (λ (x : ℕ). get_or bytes i 0 * 256 ^ n + x) rest
 
--- one more word is read
-pub one_read : (words new rest behind bytes : List ℕ) (word : ℕ) → 8 ≤ length rest → ((i : ℕ) → get_or (take 8 rest) i 0 < 256) → word ≡ from_be_bytes w64 (take 8 rest) → behind ≡ drop 8 rest
-    → new ≡ words ++ word ∷ [] → flat_map (to_be_bytes w64) words ++ rest ≡ bytes → flat_map (to_be_bytes w64) new ++ behind ≡ bytes
-one_read words new rest behind bytes word more small is back pushed before =
-    let eight : to_be_bytes w64 word ≡ take 8 rest = be_bytes_8 (take 8 rest) word (length-take-le 8 rest more) small is in
-    ap (λ ws. flat_map (to_be_bytes w64) ws ++ behind) pushed
-    ∙ ap (λ front. front ++ behind) (flat_map-append (to_be_bytes w64) words (word ∷ []))
-    ∙ append_assoc (flat_map (to_be_bytes w64) words) (to_be_bytes w64 word ++ []) behind
-    ∙ ap (λ front. flat_map (to_be_bytes w64) words ++ (front ++ behind)) eight
-    ∙ ap (λ b. flat_map (to_be_bytes w64) words ++ (take 8 rest ++ b)) back
-    ∙ ap (λ b. flat_map (to_be_bytes w64) words ++ b) (take-append-drop 8 rest)
-    ∙ before
+-- a number of eight bytes has these bytes
+word_bytes : (bytes : List ℕ) → 8 ≤ length bytes → AreBytes bytes → to_be_bytes w64 (big_number 8 bytes) ≡ take 8 bytes
+word_bytes bytes long are =
+    ap (big_bytes 8) (sym (big_from-take 8 0 bytes)) ∙ big_bytes-big_number 8 (take 8 bytes) (length-take-le 8 bytes long) (front_bytes bytes are)
+  where
+    front_bytes : (bytes : List ℕ) → AreBytes bytes → AreBytes (take 8 bytes)
+    front_bytes bytes are i = elim (cases_lt i 8) [
+      | inl near ↦ omega (arith, get_or-take 8 bytes i 0 near, are i)
+      | inr far ↦ omega (arith, get_or_past (take 8 bytes) i 0 (omega (arith, length-take 8 bytes, far)))
+    ]
 
--- bytes that are left, fewer than eight, belong to no words
-pub none_left : (words others rest bytes : List ℕ) → flat_map (to_be_bytes w64) words ++ rest ≡ bytes → flat_map (to_be_bytes w64) others ≡ bytes → length rest < 8 → 0 < length rest → ⊥
-none_left words others rest bytes before is few some =
-    omega (arith, ap length before, ap length is, length-append (flat_map (to_be_bytes w64) words) rest, length-words words, length-words others)
+-- the words that stand in bytes have these bytes
+pub whole_read : (words bytes : List ℕ) → length bytes ≡ 8 * length words → AreBytes bytes → IsRead big_number 8 bytes words → flat_map (to_be_bytes w64) words ≡ bytes
+whole_read [] bytes size are read = sym (nil_from_length bytes (omega (arith, size)))
+whole_read (word ∷ words) bytes size are read =
+    let behind = drop 8 bytes in
+    let first : to_be_bytes w64 word ≡ take 8 bytes = ap (to_be_bytes w64) (read 0 (omega arith)) ∙ word_bytes bytes (omega (arith, size)) are in
+    let later : (k : ℕ) → k < length words → get_or words k 0 ≡ big_number 8 (drop (8 * k) behind) = λ k below.
+    read (suc k) (omega (arith, below)) ∙ ap (big_number 8) (ap (λ (n : ℕ). drop n bytes) (let e : 8 * suc k ≡ 8 + 8 * k = omega arith in e) ∙ sym (drop-drop (8 * k) 8 bytes)) in
+    let rest = whole_read words behind (omega (arith, size, length-drop 8 bytes)) (λ i. omega (arith, get_or-drop 8 bytes i 0, are (8 + i))) later in
+    ap (λ (front : List ℕ). front ++ flat_map (to_be_bytes w64) words) first ∙ ap (λ (back : List ℕ). take 8 bytes ++ back) rest ∙ take-append-drop 8 bytes
+
+pub read_fits : (words bytes : List ℕ) → AreBytes bytes → IsRead big_number 8 bytes words → All (λ word. word < 2 ^ 64) words
+read_fits words bytes are read k d below =
+    omega (arith, get_or_default words k 0 d below, read k below, big_from-lt 0 8 (drop (8 * k) bytes) (λ i. omega (arith, get_or-drop (8 * k) bytes i 0, are (8 * k + i))))
+
+-- a list that was written over one of its length
+pub written_over : (len : ℕ) (new old : List ℕ) → len ≡ length old → length new ≡ length old → take len (new ++ drop (length new) old) ≡ new
+written_over len new old len_is same =
+    ap (λ (back : List ℕ). take len (new ++ back)) (drop_all (length new) old (omega (arith, same))) ∙ ap (take len) (append-nil new) ∙ take_all len new (omega (arith, same, len_is))
+
+-- bytes that are cut within a word belong to no words
+pub none_cut : (words bytes : List ℕ) → flat_map (to_be_bytes w64) words ≡ bytes → length bytes % 8 ≡ 0
+none_cut words bytes is = omega (arith, ap length is, length-words words)

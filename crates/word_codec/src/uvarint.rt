@@ -38,11 +38,26 @@ fn append(out: &mut Vec<u8>, number: u64) -> Result<(), AllocError>
 }
 
 /// The number at the front of the bytes, and how many bytes it takes, 1 to 10. Other bytes may follow it.
+#[inline(always)]
 pub fn read_uvarint(bytes: &[u8]) -> Result<(u64, usize), UvarintFault>
     ensures found { IfOk result (λ found. (bytes.now ≡ uvarint found.0 ++ drop found.1 bytes.now) × (found.1 ≡ length (uvarint found.0))) }
     // Whatever follows it, a number is read again.
     ensures only { (number : ℕ) (rest : List ℕ) → number < 2 ^ 64 → bytes.now ≡ uvarint number ++ rest → result ≡ Ok (number, length (uvarint number)) }
 
+    ensures short { (result ≡ Err UvarintFault.Short) ↔ IsShort bytes.now }
+    ensures long { (result ≡ Err UvarintFault.Long) ↔ IsLong bytes.now }
+{
+    match bytes.split_first_chunk::<10>() {
+        Some((ten, _)) => read_front(ten),
+        None => read_front(bytes),
+    }
+}
+
+/// The same. In an array of ten bytes each has its place and its scale before the program runs.
+#[inline(always)]
+fn read_front(bytes: &[u8]) -> Result<(u64, usize), UvarintFault>
+    ensures found { IfOk result (λ found. (bytes.now ≡ uvarint found.0 ++ drop found.1 bytes.now) × (found.1 ≡ length (uvarint found.0))) }
+    ensures only { (number : ℕ) (rest : List ℕ) → number < 2 ^ 64 → bytes.now ≡ uvarint number ++ rest → result ≡ Ok (number, length (uvarint number)) }
     ensures short { (result ≡ Err UvarintFault.Short) ↔ IsShort bytes.now }
     ensures long { (result ≡ Err UvarintFault.Long) ↔ IsLong bytes.now }
 {
@@ -66,15 +81,15 @@ pub fn read_uvarint(bytes: &[u8]) -> Result<(u64, usize), UvarintFault>
 }
 
 /// A last group of 0 is no part of the shortest spelling, and the tenth group has one bit.
+#[inline(always)]
 fn is_too_long(index: usize, group: u64) -> bool
     ensures refused { OnTrue result (((0 < index) × (group ≡ 0)) ⊎ ((index ≡ 9) × (2 ≤ group))) }
     ensures taken { OnFalse result ((0 < index → 0 < group) × (index ≡ 9 → group ≤ 1)) }
 {
-    if group == 0 {
-        index > 0
-    } else {
-        index == LAST_PLACE && group > 1
+    if group > 1 {
+        return index == LAST_PLACE;
     }
+    group == 0 && index > 0
 }
 
 /// No spelling begins another: what follows a number is told apart from it.

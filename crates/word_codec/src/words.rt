@@ -2,6 +2,7 @@ ghost use Rattle.std.specs.Prelude.{◌≡◌, ◌≢◌, ◌<◌, ◌^◌, ◌+
 ghost use Rattle.std.specs.List.{flat_map};
 ghost use Rattle.std.specs.Int.{to_be_bytes, w64};
 
+use byteorder::{BigEndian, ByteOrder};
 use std::alloc::{AllocError, Global};
 
 /// Appends words of eight bytes each, the highest byte first. Without memory, as many of them as had room are there.
@@ -21,15 +22,10 @@ pub fn read_words(alloc: Global, bytes: &[u8]) -> Result<Option<Vec<u64>>, Alloc
     ensures fit { IfOk result (λ found. IfSome found (λ words. All (λ word. word < 2 ^ 64) words.items)) }
     ensures cut { IfOk result (λ found. IfNone found ((words : List ℕ) → flat_map (to_be_bytes w64) words ≢ bytes.now)) }
 {
-    let mut words = Vec::with_capacity(alloc, bytes.len() / 8)?;
-    let mut rest = bytes;
-    while let Some((eight, behind)) = rest.split_first_chunk::<8>() {
-        words.push(u64::from_be_bytes(*eight))?;
-        rest = behind;
+    if bytes.len() % 8 != 0 {
+        return Ok(None);
     }
-    if rest.is_empty() {
-        Ok(Some(words))
-    } else {
-        Ok(None)
-    }
+    let mut words = vec![in alloc; 0; bytes.len() / 8]?;
+    BigEndian::read_u64_into(bytes, words.as_mut_slice());
+    Ok(Some(words))
 }
