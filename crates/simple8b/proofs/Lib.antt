@@ -4,3 +4,4 @@ pub mod Narrowest
 pub mod Packing
 pub mod Spelling
 pub mod Wide
+pub mod Backward

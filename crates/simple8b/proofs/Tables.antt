@@ -1,6 +1,6 @@
 -- Facts on the sixteen selectors, each found by a test of all of them.
-use Rattle.std.proofs.Common.{◌≡◌, ℕ, zero, suc, ◌+◌, ◌-◌, ◌*◌, ◌^◌, ◌<◌, ◌≤◌, Bool, true, ◌||◌, leb, ltb, ⊎_elim, ap, sym, ◌∙◌, refl, arith}
-use Rattle.std.proofs.lemmas.Bool.{agree_below, agree_below_at, leb-true, le-ltb, cases_lt}
+use Rattle.std.proofs.Common.{◌≡◌, ℕ, zero, suc, ◌+◌, ◌-◌, ◌*◌, ◌^◌, ◌<◌, ◌≤◌, Bool, true, ◌||◌, eqb, leb, ltb, [], ◌∷◌, slice_index, ⊎_elim, ap, sym, ◌∙◌, refl, arith}
+use Rattle.std.proofs.lemmas.Bool.{agree_below, agree_below_at, leb-true, eqb-true, le-ltb, cases_lt}
 use Rattle.std.proofs.lemmas.Nat.{pow_below}
 use Rattle.simple8b.specs.Words.{count_of, bits_of}
 
@@ -19,6 +19,14 @@ count_most selector h = leb-true (count_of selector) 240 (met_below (λ s. leb (
 pub used_most : (selector : ℕ) → selector < 16 → bits_of selector * count_of selector ≤ 60
 unfolding count_of bits_of
 used_most selector h = leb-true (bits_of selector * count_of selector) 60 (met_below (λ s. leb (bits_of s * count_of s) 60) 16 selector refl h)
+
+-- the table of the lower bits that hold values, by the selector
+abbrev pub used_by : ℕ → ℕ
+used_by selector = slice_index (0 ∷ 0 ∷ 60 ∷ 60 ∷ 60 ∷ 60 ∷ 60 ∷ 60 ∷ 56 ∷ 56 ∷ 60 ∷ 60 ∷ 60 ∷ 60 ∷ 60 ∷ 60 ∷ []) selector
+
+pub used_is : (selector : ℕ) → selector < 16 → used_by selector ≡ bits_of selector * count_of selector
+unfolding count_of bits_of
+used_is selector h = eqb-true (used_by selector) (bits_of selector * count_of selector) (met_below (λ s. eqb (used_by s) (bits_of s * count_of s)) 16 selector refl h)
 
 pub bits_most : (selector : ℕ) → selector < 16 → bits_of selector ≤ 60
 unfolding bits_of

@@ -1,16 +1,16 @@
 -- Values of a word that the selector before its own has no room for.
-use Rattle.std.proofs.Common.{◌≡◌, ℕ, suc, zero, ◌+◌, ◌-◌, ◌*◌, ◌/◌, ◌%◌, ◌^◌, ◌<◌, ◌≤◌, ⊎_elim, Bool, true, false, cond, eqb, leb, ltb, List, [], ◌∷◌, length, take, get_or, slice_index, bit_and, All, sym, ◌∙◌, ap, subst, refl, arith}
-use Rattle.std.proofs.lemmas.Bool.{agree_below, agree_below_at, cases_Bool, cases_lt, cond-true, cond-false, lt-ltb, le-ltb, leb-true, eqb-true, false≢true}
+use Rattle.std.proofs.Common.{◌≡◌, ℕ, suc, zero, ◌+◌, ◌-◌, ◌*◌, ◌/◌, ◌%◌, ◌^◌, ◌<◌, ◌≤◌, ⊎_elim, true, cond, eqb, ltb, List, [], ◌∷◌, length, take, get_or, slice_index, bit_and, All, sym, ◌∙◌, ap, subst, refl, arith}
+use Rattle.std.proofs.lemmas.Bool.{agree_below_at, cases_Bool, cases_lt, cond-true, cond-false, lt-ltb, le-ltb, eqb-true}
 use Rattle.std.proofs.lemmas.Nat.{pow_pos, and_block, div-add-mod'}
 use Rattle.std.proofs.lemmas.Nat.Bits.{and_high_mask}
 use Rattle.std.specs.Int.Bits.{and_zero_r}
 use Rattle.std.proofs.lemmas.List.{get_or-take, length-take, take-take, get_or-replicate}
-use Rattle.std.proofs.lemmas.List.Elements.{All-head, All-tail, All-nil, All-cons, All-same, All-weaker, All-take}
+use Rattle.std.proofs.lemmas.List.Elements.{All-head, All-tail, All-nil, All-cons, All-weaker, All-take}
 use Rattle.std.proofs.Math.Nat.{mod-eq_of_lt}
 use Rattle.simple8b.specs.Words.{count_of, bits_of, fits, holds, selector_of}
 use Rattle.simple8b.specs.Unpacked.{selector_in, unpacked, values_in}
 use Rattle.simple8b.proofs.Tables.{pow_le, bits_some, bits_before, bits_least, count_falls}
-use Rattle.simple8b.proofs.Selecting.{holds_from, long_from_holds, fit_from_holds, fits_one, fits_narrow, one_from_fits, narrow_from_fits, selector_is}
+use Rattle.simple8b.proofs.Selecting.{holds_from, fit_from_holds, fits_one, fits_narrow, one_from_fits, narrow_from_fits, selector_is}
 use Rattle.simple8b.proofs.Packing.{length-unpacked, unpacked-narrow}
 use Rattle.simple8b.proofs.Spelling.{length-values_in, values_in_ones, values_in_packed}
 

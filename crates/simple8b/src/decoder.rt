@@ -1,11 +1,14 @@
-ghost use Rattle.std.specs.Prelude.{◌≡◌, ◌≢◌, ◌≤◌, ◌<◌, ◌*◌, ◌+◌, ◌^◌, ◌++◌, ◌↔◌, ℕ, List, All, IsTrue, IfOk, not, nat_lt, ◌%◌, length, sum_by, take, replicate};
+ghost use Rattle.std.specs.Prelude.{◌≡◌, ◌≢◌, ◌≤◌, ◌<◌, ◌*◌, ◌+◌, ◌-◌, ◌^◌, ◌++◌, ℕ, List, All, IsTrue, IfOk, false, not, nat_lt, ◌%◌, length, take, drop, replicate};
 ghost use Rattle.simple8b.specs.Words.{words_of, count_of, bits_of};
-ghost use Rattle.simple8b.specs.Unpacked.{selector_in, unpacked, values_in, values_of};
+ghost use Rattle.simple8b.specs.Unpacked.{selector_in, unpacked, values_in};
 
 use crate::WordsFault;
-use crate::first::is_first;
+use crate::first::{has_wide_value, is_first};
 use crate::selector::{held, used};
-use std::alloc::{AllocError, Global};
+use std::alloc::Global;
+
+/// The most values that a word holds.
+const MOST_HELD: usize = 240;
 
 /// The list of `n` values whose words these are. Each value is below 2^60.
 pub fn decode(alloc: Global, words: &[u64], n: usize) -> Result<Vec<u64>, WordsFault>
@@ -15,58 +18,68 @@ pub fn decode(alloc: Global, words: &[u64], n: usize) -> Result<Vec<u64>, WordsF
     ensures bad_words { result ≡ Err WordsFault.BadWords → (values : List ℕ) → All (λ value. value < 2 ^ 60) values
         → length values ≡ n → words_of values ≢ words.now }
 {
-    if !holds_exactly(words, n) {
+    if n > words.len().saturating_mul(MOST_HELD) {
         return Err(WordsFault::BadWords);
     }
-    let values = read_back(alloc, words, n)?;
-    if !is_spelled(values.as_slice(), words) {
+    let mut values = vec![in alloc; 0; n]?;
+    if !read_back(words, values.as_mut_slice()) {
         return Err(WordsFault::BadWords);
     }
     Ok(values)
 }
 
-/// Whether the words hold so many values by their selectors.
-fn holds_exactly(words: &[u64], n: usize) -> bool
-    ensures { IsTrue result ↔ (sum_by (λ word. count_of (selector_in word)) words.now ≡ n) }
+/// Writes the values of words into a list, and tells whether the words are the encoder's words of a list so long.
+// From the last word to the first: whether a selector is the first that holds the next values is told by those behind.
+fn read_back(words: &[u64], values: &mut [u64]) -> bool
+    ensures spelled { IsTrue result → words_of values.new ≡ words.now }
+    ensures narrow { IsTrue result → All (λ value. value < 2 ^ 60) values.new }
+    ensures refused { result ≡ false → (others : List ℕ) → All (λ value. value < 2 ^ 60) others → length others ≡ length values.old
+        → words_of others ≢ words.now }
 {
-    let mut rest = n;
-    for word in words {
-        let count = held((*word >> 60) as usize);
-        if rest < count {
+    let mut start = values.len();
+    let mut at = words.len();
+    while at > 0 {
+        at -= 1;
+        let word = words[at];
+        if is_lone(word) {
+            if start == 0 {
+                return false;
+            }
+            start -= 1;
+            unpack::<1, 60>(word, values, start);
+            continue;
+        }
+        let count = held((word >> 60) as usize);
+        if start < count {
             return false;
         }
-        rest -= count;
+        start -= count;
+        unpack_word(word, values, start);
+        if !is_first(word, values.split_at(start).1) {
+            return false;
+        }
+        if has_loose_bits(word) {
+            return false;
+        }
     }
-    rest == 0
+    start == 0
 }
 
-/// The values of words that hold so many.
-fn read_back(alloc: Global, words: &[u64], n: usize) -> Result<Vec<u64>, AllocError>
-    requires { sum_by (λ word. count_of (selector_in word)) words.now ≡ n }
-    ensures { IfOk result (λ values. values.items ≡ values_of words.now) }
+/// Whether a word holds one value that no other selector has room for. Where differences are wide all words are so.
+#[inline(always)]
+fn is_lone(word: u64) -> bool
+    ensures selector { IsTrue result → selector_in word ≡ 15 }
+    ensures wide { IsTrue result → ¬ (All (λ value. value < 2 ^ bits_of (selector_in word - 1)) (values_in word)) }
 {
-    let mut values = vec![in alloc; 0; n]?;
-    unpack_all(words, values.as_mut_slice());
-    Ok(values)
-}
-
-/// Writes the values of words into a list of their length.
-fn unpack_all(words: &[u64], values: &mut [u64])
-    requires { sum_by (λ word. count_of (selector_in word)) words.now ≡ length values.old }
-    ensures { values.new ≡ values_of words.now }
-{
-    let mut start = 0;
-    for word in words {
-        unpack_word(*word, values, start);
-        start += held((*word >> 60) as usize);
-    }
+    word >> 60 == 15 && has_wide_value(word)
 }
 
 /// Writes the values of a word into a list from `start` on.
 #[tactic(auto, unfolding(crate::specs::Words::count_of, crate::specs::Words::bits_of, crate::specs::Unpacked::values_in))]
 fn unpack_word(word: u64, values: &mut [u64], start: usize)
     requires { start + count_of (selector_in word) ≤ length values.old }
-    ensures { take (start + count_of (selector_in word)) values.new ≡ take start values.old ++ values_in word }
+    ensures front { take (start + count_of (selector_in word)) values.new ≡ take start values.old ++ values_in word }
+    ensures behind { drop (start + count_of (selector_in word)) values.new ≡ drop (start + count_of (selector_in word)) values.old }
 {
     match word >> 60 {
         0 => write_ones::<240>(values, start),
@@ -91,7 +104,8 @@ fn unpack_word(word: u64, values: &mut [u64], start: usize)
 /// Writes so many ones into a list from `start` on.
 fn write_ones<const COUNT: usize>(values: &mut [u64], start: usize)
     requires { start + COUNT ≤ length values.old }
-    ensures { take (start + COUNT) values.new ≡ take start values.old ++ replicate COUNT 1 }
+    ensures front { take (start + COUNT) values.new ≡ take start values.old ++ replicate COUNT 1 }
+    ensures behind { drop (start + COUNT) values.new ≡ drop (start + COUNT) values.old }
 {
     for k in 0..COUNT {
         values[start + k] = 1;
@@ -102,7 +116,8 @@ fn write_ones<const COUNT: usize>(values: &mut [u64], start: usize)
 fn unpack<const COUNT: usize, const BITS: u32>(word: u64, values: &mut [u64], start: usize)
     requires room { start + COUNT ≤ length values.old }
     requires bits { BITS ≤ 60 }
-    ensures { take (start + COUNT) values.new ≡ take start values.old ++ unpacked BITS COUNT word }
+    ensures front { take (start + COUNT) values.new ≡ take start values.old ++ unpacked BITS COUNT word }
+    ensures behind { drop (start + COUNT) values.new ≡ drop (start + COUNT) values.old }
 {
     let mut rest = word;
     for k in 0..COUNT {
@@ -111,25 +126,8 @@ fn unpack<const COUNT: usize, const BITS: u32>(word: u64, values: &mut [u64], st
     }
 }
 
-/// Whether words, of which these are the values, are the encoder's words of them.
-fn is_spelled(values: &[u64], words: &[u64]) -> bool
-    requires { values.now ≡ values_of words.now }
-    ensures { IsTrue result ↔ (words_of values.now ≡ words.now) }
-{
-    let mut rest = values;
-    for word in words {
-        if !is_first(*word, rest) {
-            return false;
-        }
-        if has_loose_bits(*word) {
-            return false;
-        }
-        rest = rest.split_at(held((*word >> 60) as usize)).1;
-    }
-    true
-}
-
 /// Whether a bit is set above the values of a word and below its selector.
+#[inline(always)]
 fn has_loose_bits(word: u64) -> bool
     ensures { result ≡ not (nat_lt (word % 2 ^ 60) (2 ^ (bits_of (selector_in word) * count_of (selector_in word)))) }
 {

@@ -28,23 +28,25 @@ const WIDE: [u64; 16] = [
 /// Whether the selector of a word is the first that holds the next values, which begin with the word's own.
 // No selector is before that of 240 ones, and a value that has no room in the one before has none in any before that.
 // Only where all of the word's values would fit the one before does it matter what follows them.
+#[inline(always)]
 pub fn is_first(word: u64, values: &[u64]) -> bool
     requires own { take (count_of (selector_in word)) values.now ≡ values_in word }
     requires narrow { All (λ value. value < 2 ^ 60) values.now }
     ensures { result ≡ (selector_of values.now == selector_in word) }
 {
-    let selector = (word >> 60) as usize;
-    if selector == 0 {
+    if has_wide_value(word) {
         return true;
     }
-    if has_wide_value(word) {
+    let selector = (word >> 60) as usize;
+    if selector == 0 {
         return true;
     }
     first_selector(values) == selector
 }
 
 /// Whether a value of the word has no room under the selector before its own.
-fn has_wide_value(word: u64) -> bool
+#[inline(always)]
+pub fn has_wide_value(word: u64) -> bool
     ensures { IsTrue result ↔ ((2 < selector_in word) × ¬ (All (λ value. value < 2 ^ bits_of (selector_in word - 1)) (values_in word))) }
 {
     word & WIDE[(word >> 60) as usize] != 0

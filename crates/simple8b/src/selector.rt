@@ -7,6 +7,9 @@ const COUNTS: [usize; 16] = [240, 120, 60, 30, 20, 15, 12, 10, 8, 7, 6, 5, 4, 3,
 /// In how many bits each value of a word stands, by its selector.
 const BITS: [u32; 16] = [0, 0, 1, 2, 3, 4, 5, 6, 7, 8, 10, 12, 15, 20, 30, 60];
 
+/// How many of the lower bits of a word hold values, by its selector.
+const USED: [u32; 16] = [0, 0, 60, 60, 60, 60, 60, 60, 56, 56, 60, 60, 60, 60, 60, 60];
+
 /// The first selector from 2 upward in whose bits a value stands, by the number of the value's own bits.
 const NARROWEST: [usize; 61] = [
     2, 2, 3, 4, 5, 6, 7, 8, 9, 10, 10, 11, 11, 12, 12, 12, 13, 13, 13, 13, 13, 14, 14, 14, 14, 14,
@@ -38,7 +41,7 @@ pub fn used(selector: usize) -> u32
     requires { selector < 16 }
     ensures { result ≡ bits_of selector * count_of selector }
 {
-    BITS[selector] * COUNTS[selector] as u32
+    USED[selector]
 }
 
 /// The first selector, from 0 upward, whose whole count of the next values fits.

@@ -1,5 +1,5 @@
 use Rattle.std.proofs.Common.{◌≡◌, ℕ, suc, ◌+◌, ◌-◌, ◌/◌, ◌%◌, ◌^◌, ◌<◌, List, [], ◌∷◌, ◌++◌, length, take, set, bit_and, sym, ◌∙◌, ap, arith, append_assoc}
-use Rattle.std.proofs.lemmas.List.{take_more_set, append-nil}
+use Rattle.std.proofs.lemmas.List.{take_more_set, append-nil, drop-set-lt}
 use Rattle.std.proofs.lemmas.Nat.{and_mask, one_shl}
 use Rattle.simple8b.specs.Unpacked.{unpacked}
 use Rattle.simple8b.proofs.Packing.{unpacked-suc, unpacked-zero}
@@ -20,16 +20,18 @@ one_more values target start k count bits rest mask below room is read =
     ∙ read
 
 pub loop-k-preserved : goal.loop-k-preserved
-loop-k-preserved g c =
-    one_more c.loop-k.values (take c.args.start c.args.values.now ++ unpacked g.row.BITS g.row.COUNT c.args.word) c.args.start c.loop-k.k g.row.COUNT g.row.BITS c.loop-k.rest _
-    (omega arith) (omega (arith, c.loop-k.auto.values)) (ap (λ (n : ℕ). n - 1) (one_shl g.row.BITS 64 (omega arith))) c.loop-k.invariant
+loop-k-preserved g c = record {
+  front = one_more c.loop-k.values (take c.args.start c.args.values.now ++ unpacked g.row.BITS g.row.COUNT c.args.word) c.args.start c.loop-k.k g.row.COUNT g.row.BITS c.loop-k.rest _
+      (omega arith) (omega (arith, c.loop-k.auto.values)) (ap (λ (n : ℕ). n - 1) (one_shl g.row.BITS 64 (omega arith))) c.loop-k.invariant.front;
+  behind = drop-set-lt (c.args.start + g.row.COUNT) c.loop-k.values (c.args.start + c.loop-k.k) _ (omega arith) ∙ c.loop-k.invariant.behind;
+}
 
-pub returns : goal.returns
-returns g c =
+pub returns-clause-front : goal.returns-clause-front
+returns-clause-front g c =
     let done : c.loop-k.k ≡ g.row.COUNT = omega arith in
     let none : unpacked g.row.BITS (g.row.COUNT - c.loop-k.k) c.loop-k.rest ≡ [] =
     ap (λ (n : ℕ). unpacked g.row.BITS n c.loop-k.rest) (let e : g.row.COUNT - c.loop-k.k ≡ 0 = omega arith in e) ∙ unpacked-zero g.row.BITS c.loop-k.rest in
     ap (λ (n : ℕ). take (c.args.start + n) c.loop-k.values) (sym done)
     ∙ sym (append-nil (take (c.args.start + c.loop-k.k) c.loop-k.values))
     ∙ ap (λ (back : List ℕ). take (c.args.start + c.loop-k.k) c.loop-k.values ++ back) (sym none)
-    ∙ c.loop-k.invariant
+    ∙ c.loop-k.invariant.front

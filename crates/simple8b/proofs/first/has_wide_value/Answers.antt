@@ -1,8 +1,7 @@
-use Rattle.std.proofs.Common.{◌≡◌, ◌<◌, ◌^◌, ◌-◌, ℕ, true, eqb, not, bit_and, ⊎_elim, All, ap, sym, ◌∙◌, arith}
+use Rattle.std.proofs.Common.{◌≡◌, ℕ, true, eqb, not, bit_and, ⊎_elim, ap, sym, ◌∙◌}
 use Rattle.std.proofs.lemmas.Bool.{not-true, eq-eqb, eqb-true, false≢true, cases_Bool, cases_lt}
 use Rattle.std.specs.Int.Bits.{and_zero_r}
-use Rattle.simple8b.specs.Words.{bits_of}
-use Rattle.simple8b.specs.Unpacked.{selector_in, values_in}
+use Rattle.simple8b.specs.Unpacked.{selector_in}
 use Rattle.simple8b.proofs.Spelling.{selector_low}
 use Rattle.simple8b.proofs.Wide.{wide_by, wide_none, wide_values}
 use Rattle.simple8b.proofs.first.has_wide_value.Goals as goal

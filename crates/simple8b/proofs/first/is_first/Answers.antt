@@ -1,4 +1,4 @@
-use Rattle.std.proofs.Common.{eqb, length, ap, sym, ◌∙◌, arith}
+use Rattle.std.proofs.Common.{eqb, length, ap, sym, arith}
 use Rattle.std.proofs.lemmas.Bool.{eq-eqb}
 use Rattle.std.proofs.lemmas.List.{length-take}
 use Rattle.simple8b.specs.Words.{count_of}
