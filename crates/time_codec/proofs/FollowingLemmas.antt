@@ -179,6 +179,17 @@ behind_more times all first next total gap at gaps rest below are is done =
     subst (λ (t : ℤ). take (at + 1) (set times at next) ++ times_behind t rest ≡ all) is
     (one_behind times all (first +ℤ pos total) next gap at gaps rest below are (is ∙ sym (further first total gap)) done)
 
+-- one more time is appended
+pub pushed_more : (times new all : List ℤ) (first next : ℤ) (total gap : ℕ) (gaps rest : List ℕ) → new ≡ times ++ next ∷ [] → gaps ≡ gap ∷ rest → next ≡ first +ℤ pos (total + gap) → times ++ times_behind (first +ℤ pos total) gaps ≡ all
+    → new ++ times_behind (first +ℤ pos (total + gap)) rest ≡ all
+pushed_more times new all first next total gap gaps rest pushed are is done =
+    ap (λ ts. ts ++ times_behind (first +ℤ pos (total + gap)) rest) pushed
+    ∙ append_assoc times (next ∷ []) (times_behind (first +ℤ pos (total + gap)) rest)
+    ∙ ap (λ (t : ℤ). times ++ (t ∷ times_behind (first +ℤ pos (total + gap)) rest)) is
+    ∙ ap (λ (t : ℤ). times ++ (t ∷ times_behind t rest)) (sym (further first total gap))
+    ∙ ap (λ gs. times ++ times_behind (first +ℤ pos total) gs) (sym are)
+    ∙ done
+
 -- the steps from a place on
 pub gaps_more : (unit : ℕ) (steps : List ℕ) (at : ℕ) → at < length steps → map (λ step. step * unit) (drop at steps) ≡ (get_or steps at 0 * unit) ∷ map (λ step. step * unit) (drop (at + 1) steps)
 gaps_more unit steps at below = ap (map (λ step. step * unit)) (drop_more steps at 0 below)

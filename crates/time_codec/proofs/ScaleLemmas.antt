@@ -1,14 +1,26 @@
 -- Differences in units of a power of ten, and back.
-use Rattle.std.proofs.Common.{◌≡◌, ◌⊎◌, ⊎_elim, ℕ, zero, suc, ◌+◌, ◌-◌, ◌*◌, ◌/◌, ◌%◌, ◌^◌, ◌<◌, ◌≤◌, true, false, ◌&&◌, eqb, ltb, List, [], ◌∷◌, inl, inr, refl, sym, ◌∙◌, ap, subst, arith}
+use Rattle.std.proofs.Common.{◌≡◌, ◌⊎◌, ⊎_elim, ℕ, zero, suc, ◌+◌, ◌-◌, ◌*◌, ◌/◌, ◌%◌, ◌^◌, ◌<◌, ◌≤◌, true, false, ◌&&◌, eqb, ltb, List, [], ◌∷◌, slice_index, inl, inr, refl, sym, ◌∙◌, ap, subst, arith}
 use Rattle.std.specs.Prelude.{All}
 use Rattle.std.specs.List.{list_all}
 use Rattle.std.specs.Cmp.{first_so, second_so, both_ways}
 use Rattle.std.specs.Cmp.Derive.{both_true}
-use Rattle.std.proofs.lemmas.Bool.{eqb-true, eq-eqb, lt-ltb, cond-true, cond-false, cases_Bool, cases_lt, false≢true}
+use Rattle.std.proofs.lemmas.Bool.{agree_below_at, eqb-true, eq-eqb, lt-ltb, cond-true, cond-false, cases_Bool, cases_lt, false≢true}
 use Rattle.std.proofs.lemmas.Nat.{div-add-mod', pow-add}
 use Rattle.std.proofs.Math.Nat.{mul_assoc, mul-mod_left, mul-div_cancel, one-le-pow}
 use Rattle.std.proofs.lemmas.List.Elements.{All-head, All-tail}
 use Rattle.time_codec.specs.Times.{divides_all, greatest_exponent, exponent_of, scaled, unscaled, all_same}
+
+-- ---- the powers of ten
+
+-- the table of the powers, by the exponent
+abbrev pub power_by : ℕ → ℕ
+power_by exponent = slice_index (1 ∷ 10 ∷ 100 ∷ 1000 ∷ 10000 ∷ 100000 ∷ 1000000 ∷ 10000000 ∷ 100000000 ∷ 1000000000 ∷ 10000000000 ∷ 100000000000 ∷ 1000000000000 ∷ []) exponent
+
+pub power_is : (exponent : ℕ) → exponent ≤ 12 → power_by exponent ≡ 10 ^ exponent
+power_is exponent most = eqb-true (power_by exponent) (10 ^ exponent) (agree_below_at (λ e. eqb (power_by e) (10 ^ e)) (λ _. true) 13 exponent refl (omega (arith, most)))
+
+pub power_some : (exponent : ℕ) → exponent ≤ 12 → 0 < power_by exponent
+power_some exponent most = omega (arith, power_is exponent most, one-le-pow exponent 10 (omega arith))
 
 -- ---- the greatest exponent
 

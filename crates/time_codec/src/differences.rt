@@ -8,6 +8,23 @@ use tsdb_types::Time;
 /// The greatest exponent of a scale.
 const GREATEST: usize = 12;
 
+/// The powers of ten of the scales, by their exponents.
+const POWERS: [u64; 13] = [
+    1,
+    10,
+    100,
+    1_000,
+    10_000,
+    100_000,
+    1_000_000,
+    10_000_000,
+    100_000_000,
+    1_000_000_000,
+    10_000_000_000,
+    100_000_000_000,
+    1_000_000_000_000,
+];
+
 /// How far each time is from the one before.
 pub fn between(alloc: Global, first: Time, later: &[Time]) -> Result<Vec<u64>, AllocError>
     ensures { IfOk result (λ found. found.items ≡ differences (first ∷ later.now)) }
@@ -97,62 +114,42 @@ pub fn power(exponent: usize) -> u64
     ensures value { result ≡ 10 ^ exponent }
     ensures some { 0 < result }
 {
-    10u64.pow(exponent as u32)
+    POWERS[exponent]
 }
 
+/// Whether a power of ten divides every difference.
+// The powers are constants, so that no division is made where a product does.
 fn is_divisor(exponent: usize, differences: &[u64]) -> bool
     requires some { 0 < exponent }
     requires most { exponent ≤ 12 }
     ensures { result ≡ divides_all exponent differences.now }
 {
-    differences
-        .iter()
-        .all(|difference| divides(exponent, *difference))
-}
-
-// The divisors are constants, so that no division is made where a product does.
-#[inline(always)]
-fn divides(exponent: usize, difference: u64) -> bool
-    requires some { 0 < exponent }
-    requires most { exponent ≤ 12 }
-    ensures { result ≡ (difference % 10 ^ exponent == 0) }
-{
     match exponent {
-        1 => difference % 10 == 0,
-        2 => difference % 100 == 0,
-        3 => difference % 1_000 == 0,
-        4 => difference % 10_000 == 0,
-        5 => difference % 100_000 == 0,
-        6 => difference % 1_000_000 == 0,
-        7 => difference % 10_000_000 == 0,
-        8 => difference % 100_000_000 == 0,
-        9 => difference % 1_000_000_000 == 0,
-        10 => difference % 10_000_000_000 == 0,
-        11 => difference % 100_000_000_000 == 0,
-        _ => difference % 1_000_000_000_000 == 0,
+        1 => are_multiples::<10>(differences),
+        2 => are_multiples::<100>(differences),
+        3 => are_multiples::<1_000>(differences),
+        4 => are_multiples::<10_000>(differences),
+        5 => are_multiples::<100_000>(differences),
+        6 => are_multiples::<1_000_000>(differences),
+        7 => are_multiples::<10_000_000>(differences),
+        8 => are_multiples::<100_000_000>(differences),
+        9 => are_multiples::<1_000_000_000>(differences),
+        10 => are_multiples::<10_000_000_000>(differences),
+        11 => are_multiples::<100_000_000_000>(differences),
+        _ => are_multiples::<1_000_000_000_000>(differences),
     }
 }
 
-#[inline(always)]
-fn quotient(exponent: usize, difference: u64) -> u64
-    requires { exponent ≤ 12 }
-    ensures { result ≡ difference / 10 ^ exponent }
+fn are_multiples<const UNIT: u64>(differences: &[u64]) -> bool
+    requires { 0 < UNIT }
+    ensures { result ≡ list_all (λ difference. difference % UNIT == 0) differences.now }
 {
-    match exponent {
-        0 => difference,
-        1 => difference / 10,
-        2 => difference / 100,
-        3 => difference / 1_000,
-        4 => difference / 10_000,
-        5 => difference / 100_000,
-        6 => difference / 1_000_000,
-        7 => difference / 10_000_000,
-        8 => difference / 100_000_000,
-        9 => difference / 1_000_000_000,
-        10 => difference / 10_000_000_000,
-        11 => difference / 100_000_000_000,
-        _ => difference / 1_000_000_000_000,
+    for difference in differences {
+        if *difference % UNIT != 0 {
+            return false;
+        }
     }
+    true
 }
 
 /// Whether there is a difference and all are equal.
@@ -193,10 +190,28 @@ pub fn scale(exponent: usize, differences: &mut [u64])
     requires { exponent ≤ 12 }
     ensures { differences.new ≡ map (λ difference. difference / 10 ^ exponent) differences.old }
 {
-    if exponent == 0 {
-        return;
+    match exponent {
+        0 => {}
+        1 => divide_all::<10>(differences),
+        2 => divide_all::<100>(differences),
+        3 => divide_all::<1_000>(differences),
+        4 => divide_all::<10_000>(differences),
+        5 => divide_all::<100_000>(differences),
+        6 => divide_all::<1_000_000>(differences),
+        7 => divide_all::<10_000_000>(differences),
+        8 => divide_all::<100_000_000>(differences),
+        9 => divide_all::<1_000_000_000>(differences),
+        10 => divide_all::<10_000_000_000>(differences),
+        11 => divide_all::<100_000_000_000>(differences),
+        _ => divide_all::<1_000_000_000_000>(differences),
     }
+}
+
+fn divide_all<const UNIT: u64>(differences: &mut [u64])
+    requires { 0 < UNIT }
+    ensures { differences.new ≡ map (λ difference. difference / UNIT) differences.old }
+{
     for difference in differences.iter_mut() {
-        *difference = quotient(exponent, *difference);
+        *difference /= UNIT;
     }
 }

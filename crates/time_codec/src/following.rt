@@ -1,4 +1,5 @@
-ghost use Rattle.std.specs.Prelude.{◌≡◌, ◌↔◌, ℕ, ◌+◌, ◌*◌, ◌^◌, ◌<◌, ◌≤◌, ℤ, pos, ◌+ℤ◌, List, [], ◌∷◌, ◌-◌, length, take, map, replicate, sum, All, IsTrue, IfOk, IfSome, IsNone, IsSomeAnd};
+ghost use Rattle.std.specs.Prelude.{◌≡◌, ◌↔◌, ℕ, ◌+◌, ◌*◌, ◌^◌, ◌<◌, ◌≤◌, nat_lt, ◌&&◌, ℤ, pos, ◌+ℤ◌, List, [], ◌∷◌, ◌-◌, length, take, map, replicate, sum, vec_capacity, All, IsTrue, IfOk, IfSome, IsNone, IsSomeAnd};
+ghost use Rattle.std.specs.List.{list_all};
 ghost use Rattle.tsdb_types.specs.Moments.{IsMoment};
 ghost use Rattle.time_codec.specs.Times.{AreTimes, differences};
 ghost use Rattle.time_codec.specs.Reading.{Begin, Lead, times_behind};
@@ -25,8 +26,9 @@ pub fn times_from(
     if !lead_on(first, unit, steps) {
         return Ok(None);
     }
-    let mut times = vec![in alloc; first; steps.len() + 1]?;
-    follow(times.as_mut_slice(), first, unit, steps);
+    let mut times = Vec::with_capacity(alloc, steps.len() + 1)?;
+    times.push_reserved(first);
+    follow(&mut times, first, unit, steps);
     Ok(Some(times))
 }
 
@@ -90,6 +92,7 @@ fn late_times(
 fn lead_on(first: Time, unit: u64, steps: &[u64]) -> bool
     requires moment { IsMoment first }
     requires some { 0 < unit }
+    requires few { length steps.now ≤ 999 }
     ensures { IsTrue result ↔ Lead first (map (λ step. step * unit) steps.now) }
 {
     let Some(total) = total_of(steps) else {
@@ -98,8 +101,49 @@ fn lead_on(first: Time, unit: u64, steps: &[u64]) -> bool
     is_moment_behind(first, unit, total)
 }
 
+/// Up to 999 steps below this have a sum of 64 bits.
+const SMALL: u64 = 1 << 54;
+
 /// The sum of steps none of which is zero; none beyond 64 bits.
 fn total_of(steps: &[u64]) -> Option<u64>
+    requires few { length steps.now ≤ 999 }
+    ensures found { IfSome result (λ total. (total ≡ sum steps.now) × All (λ step. 0 < step) steps.now) }
+    ensures none { IsNone result → All (λ step. 0 < step) steps.now → 2 ^ 64 ≤ sum steps.now }
+{
+    if are_small(steps) {
+        return Some(small_total(steps));
+    }
+    wide_total(steps)
+}
+
+/// Whether each step is above zero and small.
+// Without a way out in between, so that the loop takes several steps a turn.
+fn are_small(steps: &[u64]) -> bool
+    ensures { result ≡ list_all (λ step. nat_lt 0 step && nat_lt step (2 ^ 54)) steps.now }
+{
+    let mut small = true;
+    for step in steps {
+        small &= *step > 0;
+        small &= *step < SMALL;
+    }
+    small
+}
+
+/// The sum of small steps, which needs no test.
+fn small_total(steps: &[u64]) -> u64
+    requires few { length steps.now ≤ 999 }
+    requires small { All (λ step. step < 2 ^ 54) steps.now }
+    ensures { result ≡ sum steps.now }
+{
+    let mut total = 0;
+    for step in steps {
+        total += *step;
+    }
+    total
+}
+
+/// The sum of steps none of which is zero, which is tested at each; none beyond 64 bits.
+fn wide_total(steps: &[u64]) -> Option<u64>
     ensures found { IfSome result (λ total. (total ≡ sum steps.now) × All (λ step. 0 < step) steps.now) }
     ensures none { IsNone result → All (λ step. 0 < step) steps.now → 2 ^ 64 ≤ sum steps.now }
 {
@@ -144,17 +188,17 @@ fn is_moment_behind(time: Time, unit: u64, steps: u64) -> bool
     Time::new(number).is_some()
 }
 
-/// Writes the times behind the first one, each so many units behind the one before.
-fn follow(times: &mut [Time], first: Time, unit: u64, steps: &[u64])
-    requires size { length times.old ≡ length steps.now + 1 }
-    requires begun { take 1 times.old ≡ first ∷ [] }
+/// Appends the times behind the first one, each so many units behind the one before.
+fn follow(times: &mut Vec<Time>, first: Time, unit: u64, steps: &[u64])
+    requires room { vec_capacity times.old ≡ length steps.now + 1 }
+    requires begun { times.old.items ≡ first ∷ [] }
     requires on { Lead first (map (λ step. step * unit) steps.now) }
-    ensures { times.new ≡ first ∷ times_behind first (map (λ step. step * unit) steps.now) }
+    ensures { times.new.items ≡ first ∷ times_behind first (map (λ step. step * unit) steps.now) }
 {
     let mut total = 0;
-    for k in 0..steps.len() {
-        total += steps[k] * unit;
-        times[k + 1] = moved(first, total);
+    for step in steps {
+        total += *step * unit;
+        times.push_reserved(moved(first, total));
     }
 }
 

@@ -1,6 +1,8 @@
-use Rattle.std.proofs.Common.{arith}
-use Rattle.std.proofs.Math.Nat.{one-le-pow}
+use Rattle.time_codec.proofs.ScaleLemmas.{power_is, power_some}
 use Rattle.time_codec.proofs.differences.power.Goals as goal
 
+pub returns-clause-value : goal.returns-clause-value
+returns-clause-value c = power_is c.args.exponent c.requires
+
 pub returns-clause-some : goal.returns-clause-some
-returns-clause-some c = omega (arith, c.pow.ensures, one-le-pow c.args.exponent 10 (omega arith))
+returns-clause-some c = power_some c.args.exponent c.requires

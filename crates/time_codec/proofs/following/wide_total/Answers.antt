@@ -1,7 +1,7 @@
 use Rattle.std.proofs.Common.{◌+◌, drop, get_or, sum, ap, arith}
 use Rattle.std.proofs.lemmas.List.{drop_more, drop_all, get_or_default}
 use Rattle.time_codec.proofs.FollowingLemmas.{sum_cons}
-use Rattle.time_codec.proofs.following.total_of.Goals as goal
+use Rattle.time_codec.proofs.following.wide_total.Goals as goal
 
 pub returns-in_err-total-clause-none : goal.returns-in_err-total-clause-none
 returns-in_err-total-clause-none c = λ none all.

@@ -1,5 +1,5 @@
 use Rattle.std.proofs.Common.{◌≡◌, ◌+◌, ◌<◌, ℕ, drop, get_or, sum}
-use Rattle.time_codec.proofs.following.total_of.Given as goal
+use Rattle.time_codec.proofs.following.wide_total.Given as goal
 
 abbrev pub invariant-loop-step : goal.invariant-loop-step
 invariant-loop-step l = record {

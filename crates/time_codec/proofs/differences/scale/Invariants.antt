@@ -1,6 +1,0 @@
-use Rattle.std.proofs.Common.{◌≡◌, ◌/◌, ◌^◌, ◌++◌, take, drop}
-use Rattle.std.specs.Prelude.{map}
-use Rattle.time_codec.proofs.differences.scale.Given as goal
-
-abbrev pub invariant-loop-difference : goal.invariant-loop-difference
-invariant-loop-difference l = l.differences ≡ map (λ difference. difference / 10 ^ l.exponent) (take l.difference-index l.initial.differences) ++ drop l.difference-index l.initial.differences
