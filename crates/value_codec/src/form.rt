@@ -73,8 +73,13 @@ fn are_all(steps: &[u64], one: u64) -> bool
     steps.iter().all(|step| *step == one)
 }
 
+// Without a way out in between, so that the loop takes several steps a turn.
 fn are_narrow(steps: &[u64]) -> bool
     ensures { result ≡ list_all (λ step. nat_lt step (2 ^ 60)) steps.now }
 {
-    steps.iter().all(|step| *step < 1 << 60)
+    let mut narrow = true;
+    for step in steps {
+        narrow &= *step < 1 << 60;
+    }
+    narrow
 }

@@ -11,17 +11,26 @@ use word_codec::{unzigzag, zigzag};
 pub fn steps_to(alloc: Global, values: &[Value]) -> Result<Vec<u64>, AllocError>
     ensures { IfOk result (λ steps. steps.items ≡ steps_from 0 (map number_of values.now)) }
 {
-    let mut steps = Vec::with_capacity(alloc, values.len())?;
-    let mut before = 0;
-    for value in values {
-        let number = bits_of(*value);
-        steps.push(step_between(before, number))?;
-        before = number;
-    }
+    let mut steps = vec![in alloc; 0; values.len()]?;
+    tell_steps(steps.as_mut_slice(), values);
     Ok(steps)
 }
 
+/// Writes the steps to each number of the list, the first from 0.
+fn tell_steps(steps: &mut [u64], values: &[Value])
+    requires { length steps.old ≡ length values.now }
+    ensures { steps.new ≡ steps_from 0 (map number_of values.now) }
+{
+    let mut before = 0;
+    for k in 0..values.len() {
+        let number = bits_of(values[k]);
+        steps[k] = step_between(before, number);
+        before = number;
+    }
+}
+
 /// The values of a kind of numbers with these steps.
+// Which kind it is, is told before the values are written and not at each.
 pub fn values_with(
     alloc: Global,
     kind: Kind,
@@ -33,26 +42,32 @@ pub fn values_with(
     ensures kind { IfOk result (λ values. AreOf kind values.items) }
     ensures range { IfOk result (λ values. All IsInRange values.items) }
 {
-    let mut values = vec![in alloc; Value::Uint(0); rest.len() + 1]?;
-    write_values(values.as_mut_slice(), kind, first, rest);
-    Ok(values)
+    match kind {
+        Kind::Integer => values_of_kind(alloc, Kind::Integer, first, rest),
+        _ => values_of_kind(alloc, Kind::Unsigned, first, rest),
+    }
 }
 
-/// Writes the values of a kind of numbers with these steps.
-fn write_values(values: &mut [Value], kind: Kind, first: u64, rest: &[u64])
-    requires numbers { kind ≢ Kind.Boolean }
-    requires room { length values.old ≡ length rest.now + 1 }
-    ensures size { length values.new ≡ length rest.now + 1 }
-    ensures steps { steps_from 0 (map number_of values.new) ≡ first ∷ rest.now }
-    ensures kind { AreOf kind values.new }
-    ensures range { All IsInRange values.new }
+#[inline(always)]
+fn values_of_kind(
+    alloc: Global,
+    kind: Kind,
+    first: u64,
+    rest: &[u64],
+) -> Result<Vec<Value>, AllocError>
+    requires { kind ≢ Kind.Boolean }
+    ensures steps { IfOk result (λ values. steps_from 0 (map number_of values.items) ≡ first ∷ rest.now) }
+    ensures kind { IfOk result (λ values. AreOf kind values.items) }
+    ensures range { IfOk result (λ values. All IsInRange values.items) }
 {
+    let mut values = Vec::with_capacity(alloc, rest.len() + 1)?;
     let mut number = number_after(0, first);
-    values[0] = value_with(kind, number);
+    values.push_reserved(value_with(kind, number));
     for k in 0..rest.len() {
         number = number_after(number, rest[k]);
-        values[k + 1] = value_with(kind, number);
+        values.push_reserved(value_with(kind, number));
     }
+    Ok(values)
 }
 
 /// The unsigned number with the bits of a number.

@@ -85,7 +85,29 @@ fn joined(alloc: Global, times: &[Time], values: &[Value]) -> Result<Vec<(Time, 
 }
 
 /// Times, each with its value of a kind of numbers, which have these steps.
+// Which kind it is, is told before the points are written and not at each.
 fn points_with(
+    alloc: Global,
+    kind: Kind,
+    times: &[Time],
+    first: u64,
+    rest: &[u64],
+) -> Result<Vec<(Time, Value)>, AllocError>
+    requires numbers { kind ≢ Kind.Boolean }
+    requires size { length times.now ≡ length rest.now + 1 }
+    ensures times { IfOk result (λ points. map (λ point. point.0) points.items ≡ times.now) }
+    ensures steps { IfOk result (λ points. steps_from 0 (map number_of (map (λ point. point.1) points.items)) ≡ first ∷ rest.now) }
+    ensures kind { IfOk result (λ points. AreOf kind (map (λ point. point.1) points.items)) }
+    ensures range { IfOk result (λ points. All IsInRange (map (λ point. point.1) points.items)) }
+{
+    match kind {
+        Kind::Integer => points_of_kind(alloc, Kind::Integer, times, first, rest),
+        _ => points_of_kind(alloc, Kind::Unsigned, times, first, rest),
+    }
+}
+
+#[inline(always)]
+fn points_of_kind(
     alloc: Global,
     kind: Kind,
     times: &[Time],
@@ -101,10 +123,10 @@ fn points_with(
 {
     let mut points = Vec::with_capacity(alloc, times.len())?;
     let mut number = number_after(0, first);
-    points.push((times[0], value_with(kind, number)))?;
+    points.push_reserved((times[0], value_with(kind, number)));
     for k in 0..rest.len() {
         number = number_after(number, rest[k]);
-        points.push((times[k + 1], value_with(kind, number)))?;
+        points.push_reserved((times[k + 1], value_with(kind, number)));
     }
     Ok(points)
 }

@@ -1,32 +1,15 @@
-use Rattle.std.proofs.Common.{◌≡◌, ◌<◌, length, ◌+◌, ◌++◌, ◌∷◌, [], ℕ, List, drop, map, get_or, sym, ◌∙◌, ap, append_assoc}
-use Rattle.std.proofs.lemmas.List.{at_drop_more, at_drop_all, append-nil}
-use Rattle.tsdb_types.specs.declared.value.Value.{Value}
-use Rattle.value_codec.specs.Steps.{steps_from, step_of}
-use Rattle.value_codec.specs.Coding.{number_of}
-use Rattle.value_codec.proofs.StepLemmas.{steps_from-cons, steps_from-nil}
+use Rattle.std.proofs.Common.{◌≡◌, ◌++◌, ℕ, List, length, take, drop, ap, ◌∙◌, arith, rules}
+use Rattle.std.proofs.lemmas.List.{append-nil, drop_all, take_all}
 use Rattle.value_codec.proofs.numbers.steps_to.Goals as goal
 
--- one more step
-one_more : (values : List Value) (index before number step : ℕ) (other : Value) (steps new all : List ℕ) → index < length values → number ≡ number_of (get_or values index other) → step ≡ step_of before number → new ≡ steps ++ step ∷ [] → steps ++ steps_from before (map number_of (drop index values)) ≡ all → new ++ steps_from number (map number_of (drop (index + 1) values)) ≡ all
-one_more values index before number step other steps new all below is taken pushed read =
-    let later = steps_from number (map number_of (drop (index + 1) values)) in
-    let left : steps_from before (map number_of (drop index values)) ≡ step ∷ later =
-    at_drop_more (λ vs. steps_from before (map number_of vs)) values index other below
-    ∙ ap (λ (n : ℕ). steps_from before (n ∷ map number_of (drop (index + 1) values))) (sym is)
-    ∙ steps_from-cons before number (map number_of (drop (index + 1) values))
-    ∙ ap (λ (n : ℕ). n ∷ later) (sym taken) in
-    ap (λ (ns : List ℕ). ns ++ later) pushed ∙ append_assoc steps (step ∷ []) later ∙ ap (λ (ns : List ℕ). steps ++ ns) (sym left) ∙ read
-
-pub loop-value-preserved : goal.loop-value-preserved
-loop-value-preserved c =
-    let at = c.loop-value in
-    one_more c.args.values.now at.value-index at.before c.bits_of-number.result c.step_between.result _ at.steps.items c.push.new.self.items _
-    c.loop-value-test.true c.bits_of-number.ensures c.step_between.ensures c.in_ok-push.ensures.items at.invariant
+-- a list that was written over one of its length
+written_over : (len : ℕ) (new old : List ℕ) → len ≡ length old → length new ≡ length old → take len (new ++ drop (length new) old) ≡ new
+written_over len new old len_is same =
+    ap (λ (back : List ℕ). take len (new ++ back)) (drop_all (length new) old (omega (arith, same)))
+    ∙ ap (take len) (append-nil new)
+    ∙ take_all len new (omega (arith, same, len_is))
 
 pub returns : goal.returns
 returns c =
-    let at = c.loop-value in
-    let values = c.args.values.now in
-    let none : steps_from at.before (map number_of (drop at.value-index values)) ≡ [] =
-    at_drop_all (λ vs. steps_from at.before (map number_of vs)) values at.value-index c.loop-value-test.false ∙ steps_from-nil at.before in
-    sym (append-nil at.steps.items) ∙ ap (λ (ns : List ℕ). at.steps.items ++ ns) (sym none) ∙ at.invariant
+    let size : length c.in_ok-steps.steps.items ≡ length c.args.values.now = search rules in
+    written_over c.in_ok-steps.steps.len c.tell_steps.new.steps c.in_ok-steps.steps.items c.in_ok-steps.steps.ok.0 (omega (arith, c.tell_steps.auto.steps, size)) ∙ c.tell_steps.ensures

@@ -1,7 +1,8 @@
 use Rattle.std.proofs.Common.{◌≡◌, ◌+◌, ◌++◌, ◌∷◌, ℕ, List, take, map, All}
+use Rattle.std.specs.Prelude.{vec_len, vec_capacity, length}
 use Rattle.value_codec.specs.Steps.{steps_from}
 use Rattle.value_codec.specs.Coding.{number_of, AreOf, IsInRange}
-use Rattle.value_codec.proofs.points.points_with.Given as goal
+use Rattle.value_codec.proofs.points.points_of_kind.Given as goal
 
 abbrev pub invariant-loop-k : goal.invariant-loop-k
 invariant-loop-k l = record {
@@ -9,4 +10,6 @@ invariant-loop-k l = record {
   steps : (later : List ℕ) → steps_from 0 (map number_of (map (λ point. point.1) l.points.items) ++ later) ≡ (l.first ∷ take l.k l.rest) ++ steps_from l.number later;
   kind : AreOf l.kind (map (λ point. point.1) l.points.items);
   range : All IsInRange (map (λ point. point.1) l.points.items);
+  len : vec_len l.points ≡ l.k + 1;
+  room : vec_capacity l.points ≡ length l.times;
 }
