@@ -48,6 +48,10 @@ IsInDoubt log = log.gate ≡ InDoubt
 abbrev pub IsShutLog : Log → Type 0
 IsShutLog log = log.gate ≡ Shut
 
+-- no record, and none in doubt
+abbrev pub IsEmptyLog : Log → Type 0
+IsEmptyLog log = (log.end ≡ 0) × (log.gate ≢ InDoubt)
+
 -- the number of its file
 abbrev pub file_of : Log → ℕ
 file_of log = log.file
