@@ -1,5 +1,4 @@
-use Rattle.std.proofs.Common.{append-nil, ◌≡◌, ℕ, ◌+◌, ◌<◌, ◌≤◌, inl, ⊎_elim, length, Ok, Err, List, [], ◌∷◌, ◌++◌, ℤ, refl, sym, ap, subst, ◌∙◌, append_assoc}
-use Rattle.std.proofs.lemmas.Bool.{cases_lt}
+use Rattle.std.proofs.Common.{append-nil, ◌≡◌, ℕ, ◌+◌, Ok, Err, List, [], ◌∷◌, ◌++◌, ℤ, refl, sym, ap, subst, ◌∙◌, append_assoc}
 use Rattle.tsdb_types.specs.declared.point.Point.{Point}
 use Rattle.line_protocol.specs.declared.fault.LineCode.{LineCode}
 use Rattle.line_protocol.specs.declared.fault.LineFault.{LineFault}
@@ -7,7 +6,7 @@ use Rattle.line_protocol.specs.declared.fault.Refusal.{Refusal}
 use Rattle.line_protocol.specs.declared.fault.Refusal.TheVariants as refusal
 use Rattle.line_protocol.specs.Readings.{IsRefusal}
 use Rattle.line_protocol.specs.declared.fault.LineFault.TheVariants.{Line}
-use Rattle.line_protocol.specs.Batches.{At, Points, IsTooLong, FaultGives, fault_of, lines_of, points_before, LinesAre}
+use Rattle.line_protocol.specs.Batches.{At, Points, FaultGives, fault_of, lines_of, points_before, LinesAre}
 use Rattle.line_protocol.specs.Kinds.{Seen}
 use Rattle.line_protocol.specs.Lines.{AnyLineIs}
 use Rattle.line_protocol.specs.Parts.{line_front, line_rest, lines_behind, trimmed}
@@ -71,13 +70,6 @@ same-at code other line number e = (cc, cc)
 
 pub at-of : (code other : LineCode) (line number : ℕ) → code ≡ other → line ≡ number → same code line ≡ same other number
 at-of code other line number c l = ap (λ (k : LineCode). same k line) c ∙ ap (λ (n : ℕ). same other n) l
-
-pub not-long : (text : List ℕ) → (IsTooLong text → ⊥) → length text ≤ 16777216
-not-long text h =
-    ⊎_elim
-    (λ (l : 16777216 < length text). absurd (h (inl l)))
-    (λ (l : length text ≤ 16777216). l)
-    (cases_lt 16777216 (length text))
 
 -- a fault with a line is told as that
 pub fault-told : (fault : LineFault) (code : LineCode) (line : ℕ) (Holds : Points → Type 0) → fault ≡ Line code line → FaultGives fault Holds → Holds (Err (same code line))

@@ -1,11 +1,13 @@
 mod BatchLemmas
 mod ClosedLemmas
+mod CountLemmas
 mod KindLemmas
 mod LineLemmas
 mod NumberLemmas
 pub mod OnceLemmas
 pub mod OrderLemmas
 mod PartLemmas
+mod PlaceLemmas
 mod ReadingLemmas
 mod SortedLemmas
 mod TextLemmas

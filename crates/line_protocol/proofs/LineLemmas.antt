@@ -1,4 +1,4 @@
-use Rattle.std.proofs.Common.{◌≡◌, ◌↔◌, ℕ, zero, suc, ◌+◌, ◌<◌, ◌≤◌, ◌^◌, Bool, true, false, cond, ◌&&◌, ◌||◌, eqb, ltb, ◌⊎◌, inl, inr, ⊎_elim, Option, Some, None, Result, Ok, Err, List, [], ◌∷◌, ◌++◌, length, get_or, take, drop, ℤ, refl, sym, ap, subst, ◌∙◌, arith}
+use Rattle.std.proofs.Common.{◌≡◌, ◌↔◌, ℕ, zero, suc, ◌+◌, ◌<◌, ◌≤◌, ◌^◌, Bool, true, false, cond, ◌&&◌, ◌||◌, eqb, ltb, ◌⊎◌, inl, inr, ⊎_elim, Option, Some, None, Result, Ok, Err, List, [], ◌∷◌, ◌++◌, length, get_or, take, drop, ℤ, refl, sym, ap, subst, ◌∙◌, append_assoc, append-nil, arith}
 use Rattle.std.specs.Bool.{MatchBool}
 use Rattle.std.specs.Option.{MatchOption}
 use Rattle.std.proofs.lemmas.Bool.{false≢true, cases_lt, eqb-true}
@@ -7,7 +7,6 @@ use Rattle.std.specs.Result.{OnOk, IfErr}
 use Rattle.std.proofs.lemmas.Bool.Decides.{Decides-ltb}
 use Rattle.std.proofs.lemmas.List.{at_drop_more}
 use Rattle.std.proofs.lemmas.Slice.Eq.{bytes_eq-Decides}
-use Rattle.std.specs.List.{list_any}
 use Rattle.std.specs.Str.{bytes_eq}
 use Rattle.tsdb_types.specs.Keys.{mark, key_of, MarkAt, IsFirstMark, IsTooLong, IsCutShort}
 use Rattle.tsdb_types.specs.Series.{KeysDiffer, IsKeyOf}
@@ -20,15 +19,16 @@ use Rattle.line_protocol.specs.declared.fault.LineCode.TheVariants.{KeyTooLong, 
 use Rattle.line_protocol.specs.declared.fault.Refusal.{Refusal}
 use Rattle.line_protocol.specs.declared.fault.Refusal.TheVariants.{Code, Memory}
 use Rattle.line_protocol.specs.declared.field.Field.{Field}
-use Rattle.line_protocol.specs.Fields.{fields_of}
+use Rattle.line_protocol.specs.declared.spelled_field.SpelledField.{SpelledField}
+use Rattle.line_protocol.specs.Fields.{fields_of, field_spelled, fields_spelled}
 use Rattle.line_protocol.specs.Parts.{front, parts, unspaced}
 use Rattle.tsdb_types.proofs.TagLemmas.{differ_from_ascend}
-use Rattle.line_protocol.specs.Heads.{head_code, measurement_of, tags_of, has_time_tag}
+use Rattle.line_protocol.specs.Heads.{head_code, measurement_of, tags_of, time_word, has_time_tag}
 use Rattle.line_protocol.specs.Kinds.{Seen, place_of, note, note_all}
-use Rattle.line_protocol.specs.Lines.{Read, time_of, has_time_field, points_of, is_cut_short, key_step, keys_step, refusal_of, rest_of, head_of, fields_text, time_text, is_skipped, TagsAre, LineIs, AnyLineIs}
+use Rattle.line_protocol.specs.Lines.{Read, time_of, has_time_field, points_of, with_points, is_cut_short, key_step, keys_step, refusal_of, rest_of, head_of, fields_text, time_text, is_skipped, TagsAre, LineIs, AnyLineIs}
 use Rattle.line_protocol.specs.Readings.{IsRefusal, Refuses, ◌>>=◌, unless}
 use Rattle.line_protocol.proofs.PartLemmas.{decided}
-use Rattle.line_protocol.proofs.ReadingLemmas.{refused-weaker, refused-from, refuses-along}
+use Rattle.line_protocol.proofs.ReadingLemmas.{refused-weaker, refused-from}
 
 or-right : (a : Bool) → (a || true) ≡ true
 or-right true = refl
@@ -120,22 +120,61 @@ key_step-fault series field (fault.KeyTooLong len) long cut = key_step-long seri
 key_step-fault series field (fault.MarkInKey at) long cut = key_step-cut series field at ((cut at).0 refl)
 key_step-fault series field fault.Memory long cut = tt
 
--- one element of a loop over a list, and those behind it
-pub any-at : {X : Type 0} (test : X → Bool) (xs : List X) (i : ℕ) (item : X) → i < length xs → item ≡ get_or xs i item → list_any test (drop i xs) ≡ (test item || list_any test (drop (i + 1) xs))
-any-at {X} test xs i item l is =
-    at_drop_more (λ (ys : List X). list_any test ys) xs i item l ∙ ap (λ (x : X). test x || list_any test (drop (i + 1) xs)) (sym is)
+-- one field of a loop over them, and those behind it
+pub time-at : (fields : List SpelledField) (i : ℕ) (item : SpelledField) → i < length fields → item ≡ get_or fields i item
+    → has_time_field (fields_spelled (drop i fields)) ≡ (bytes_eq (field_spelled item).name time_word || has_time_field (fields_spelled (drop (i + 1) fields)))
+time-at fields i item l is =
+    at_drop_more (λ (fs : List SpelledField). has_time_field (fields_spelled fs)) fields i item l
+    ∙ ap (λ (f : SpelledField). bytes_eq (field_spelled f).name time_word || has_time_field (fields_spelled (drop (i + 1) fields))) (sym is)
 
-pub keys_step-at : (series : List ℕ) (fields : List Field) (i : ℕ) (item : Field) → i < length fields → item ≡ get_or fields i item
-    → keys_step series (drop i fields) ≡ (key_step series item.name >>= λ fits. keys_step series (drop (i + 1) fields))
-keys_step-at series fields i item l is =
-    at_drop_more (λ (fs : List Field). keys_step series fs) fields i item l
-    ∙ ap (λ (f : Field). key_step series f.name >>= λ fits. keys_step series (drop (i + 1) fields)) (sym is)
-
-pub note_all-at : (seen : Seen) (measurement : List ℕ) (fields : List Field) (i : ℕ) (item : Field) → i < length fields → item ≡ get_or fields i item
-    → note_all seen measurement (drop i fields) ≡ (note seen (place_of measurement item.name) (kind_of item.value) >>= λ after. note_all after measurement (drop (i + 1) fields))
+pub note_all-at : (seen : Seen) (measurement : List ℕ) (fields : List SpelledField) (i : ℕ) (item : SpelledField) → i < length fields → item ≡ get_or fields i item
+    → note_all seen measurement (fields_spelled (drop i fields)) ≡ (note seen (place_of measurement (field_spelled item).name) (kind_of item.value) >>= λ after. note_all after measurement (fields_spelled (drop (i + 1) fields)))
 note_all-at seen measurement fields i item l is =
-    at_drop_more (λ (fs : List Field). note_all seen measurement fs) fields i item l
-    ∙ ap (λ (f : Field). note seen (place_of measurement f.name) (kind_of f.value) >>= λ after. note_all after measurement (drop (i + 1) fields)) (sym is)
+    at_drop_more (λ (fs : List SpelledField). note_all seen measurement (fields_spelled fs)) fields i item l
+    ∙ ap (λ (f : SpelledField). note seen (place_of measurement (field_spelled f).name) (kind_of f.value) >>= λ after. note_all after measurement (fields_spelled (drop (i + 1) fields))) (sym is)
+
+pub points-at : (points : List Point) (time : ℤ) (series : List ℕ) (fields : List SpelledField) (i : ℕ) (item : SpelledField) → i < length fields → item ≡ get_or fields i item
+    → with_points points time series (fields_spelled (drop i fields)) ≡ with_points points time series (field_spelled item ∷ fields_spelled (drop (i + 1) fields))
+points-at points time series fields i item l is =
+    at_drop_more (λ (fs : List SpelledField). with_points points time series (fields_spelled fs)) fields i item l
+    ∙ ap (λ (f : SpelledField). with_points points time series (field_spelled f ∷ fields_spelled (drop (i + 1) fields))) (sym is)
+
+-- the points of a list of fields: those of the first, and then the others
+points-step : (step : Result Bool LineCode) (points : List Point) (time : ℤ) (series : List ℕ) (field : Field) (fields : List Field)
+    → ((step >>= λ fits. keys_step series fields) >>= λ fits. let r : Result (List Point) LineCode = Ok (points ++ points_of time series (field ∷ fields)) in r)
+    ≡ ((step >>= λ fits. let r : Result Bool LineCode = Ok true in r) >>= λ fits. with_points (points ++ points_of time series (field ∷ [])) time series fields)
+points-step (Ok fits) points time series field fields =
+    ap (λ (ps : List Point). keys_step series fields >>= λ fits. let r : Result (List Point) LineCode = Ok ps in r) (sym (append_assoc points (points_of time series (field ∷ [])) (points_of time series fields)))
+points-step (Err code) points time series field fields = refl
+
+points-bind : (step : Result Bool LineCode) (one : List Point) (next : List Point → Result (List Point) LineCode)
+    → (step >>= λ fits. next one) ≡ ((step >>= λ fits. let r : Result (List Point) LineCode = Ok one in r) >>= next)
+points-bind (Ok fits) one next = refl
+points-bind (Err code) one next = refl
+
+pub points-first : (points : List Point) (time : ℤ) (series : List ℕ) (field : Field) (fields : List Field)
+    → with_points points time series (field ∷ fields) ≡ (with_points points time series (field ∷ []) >>= λ more. with_points more time series fields)
+points-first points time series field fields =
+    points-step (key_step series field.name) points time series field fields
+    ∙ points-bind (key_step series field.name >>= λ fits. Ok true) (points ++ points_of time series (field ∷ [])) (λ more. with_points more time series fields)
+
+bind-assoc : {X Y Z : Type 0} (step : Result X LineCode) (next : X → Result Y LineCode) (last : Y → Result Z LineCode) → ((step >>= next) >>= last) ≡ (step >>= λ x. next x >>= last)
+bind-assoc (Ok value) next last = refl
+bind-assoc (Err code) next last = refl
+
+pub points-none : (points : List Point) (time : ℤ) (series : List ℕ) → with_points points time series [] ≡ Ok points
+points-none points time series = ap (λ (ps : List Point). let r : Result (List Point) LineCode = Ok ps in r) (append-nil points)
+
+-- the same: those of some fields, and then the others
+pub points-both : (points : List Point) (time : ℤ) (series : List ℕ) (fields others : List Field)
+    → with_points points time series (fields ++ others) ≡ (with_points points time series fields >>= λ more. with_points more time series others)
+points-both points time series [] others = ap (λ (r : Result (List Point) LineCode). r >>= λ more. with_points more time series others) (sym (points-none points time series))
+points-both points time series (field ∷ fields) others =
+    let Read : Type 0 = Result (List Point) LineCode in
+    points-first points time series field (fields ++ others)
+    ∙ ap (λ (next : List Point → Result (List Point) LineCode). with_points points time series (field ∷ []) >>= next) (λ i more. points-both more time series fields others i)
+    ∙ sym (bind-assoc (with_points points time series (field ∷ [])) (λ more. with_points more time series fields) (λ more. with_points more time series others))
+    ∙ ap (λ (r : Result (List Point) LineCode). r >>= λ more. with_points more time series others) (sym (points-first points time series field fields))
 
 -- a line without fields
 pub line-unfilled : (seen : Seen) (moment : ℤ) (line head fields : List ℕ) (refusal : Refusal)
@@ -255,28 +294,59 @@ filled-refused result seen moment line head fields time measurement reserved ser
     (λ refusal refused. refused-from refusal reading (λ code. LineIs seen moment line (Err code)) (λ code one. line-filled seen moment line head fields time measurement reserved series (Err code) fine is text some at told one) refused)
     given
 
+-- the points that were added to others, where the keys of their fields were let through
+added-by : (step : Result Bool LineCode) (all more : List Point) → (step >>= λ fits. let r : Result (List Point) LineCode = Ok all in r) ≡ Ok more → (fits : Bool) × (step ≡ Ok fits) × (more ≡ all)
+added-by (Ok fits) all more e = (fits, refl, cc)
+added-by (Err code) all more e = absurd (cc)
+
 -- the steps behind the head, where each has a value
-pub rest-ok : (seen after : Seen) (moment : ℤ) (measurement : List ℕ) (reserved : Bool) (series fields time : List ℕ) (found : List Field) (at : ℤ)
+pub rest-ok : (seen after : Seen) (moment : ℤ) (measurement : List ℕ) (reserved : Bool) (series fields time : List ℕ) (found : List Field) (at : ℤ) (points more : List Point)
     → fields_of (parts 44 false fields) ≡ Ok found → time_of moment time ≡ Ok at → unless (reserved || has_time_field found) ReservedName ≡ Ok true
-    → keys_step series found ≡ Ok true → note_all seen measurement found ≡ Ok after
-    → rest_of seen moment measurement reserved series fields time ≡ Ok (record { points = points_of at series found; seen = after })
+    → with_points points at series found ≡ Ok more → note_all seen measurement found ≡ Ok after
+    → (added : List Point) × (more ≡ points ++ added) × (rest_of seen moment measurement reserved series fields time ≡ Ok (record { points = added; seen = after }))
 unfolding rest_of
-rest-ok seen after moment measurement reserved series fields time found at e1 e2 e3 e4 e5 = rw (e1, e2, e3, e4, e5) refl
+rest-ok seen after moment measurement reserved series fields time found at points more e1 e2 e3 e4 e5 =
+    let keyed = added-by (keys_step series found) (points ++ points_of at series found) more e4 in
+    (points_of at series found, keyed.2, rw (e1, e2, e3, keyed.1, e5) refl)
 
--- the same, up to the kinds
-pub rest-refused : (refusal : Refusal) (seen : Seen) (moment : ℤ) (measurement : List ℕ) (reserved : Bool) (series fields time : List ℕ) (found : List Field) (at : ℤ)
-    → fields_of (parts 44 false fields) ≡ Ok found → time_of moment time ≡ Ok at → unless (reserved || has_time_field found) ReservedName ≡ Ok true
-    → keys_step series found ≡ Ok true → Refuses refusal (note_all seen measurement found)
+-- the same, up to each step that refuses
+pub rest-fields : (refusal : Refusal) (seen : Seen) (moment : ℤ) (measurement : List ℕ) (reserved : Bool) (series fields time : List ℕ)
+    → Refuses refusal (fields_of (parts 44 false fields)) → Refuses refusal (rest_of seen moment measurement reserved series fields time)
+unfolding rest_of
+rest-fields (Code code) seen moment measurement reserved series fields time e1 = rw (e1) refl
+rest-fields Memory seen moment measurement reserved series fields time e1 = tt
+
+pub rest-time : (refusal : Refusal) (seen : Seen) (moment : ℤ) (measurement : List ℕ) (reserved : Bool) (series fields time : List ℕ) (found : List Field)
+    → fields_of (parts 44 false fields) ≡ Ok found → Refuses refusal (time_of moment time) → Refuses refusal (rest_of seen moment measurement reserved series fields time)
+unfolding rest_of
+rest-time (Code code) seen moment measurement reserved series fields time found e1 e2 = rw (e1, e2) refl
+rest-time Memory seen moment measurement reserved series fields time found e1 e2 = tt
+
+pub rest-names : (refusal : Refusal) (seen : Seen) (moment : ℤ) (measurement : List ℕ) (reserved : Bool) (series fields time : List ℕ) (found : List Field) (at : ℤ)
+    → fields_of (parts 44 false fields) ≡ Ok found → time_of moment time ≡ Ok at → Refuses refusal (unless (reserved || has_time_field found) ReservedName)
     → Refuses refusal (rest_of seen moment measurement reserved series fields time)
 unfolding rest_of
-rest-refused (Code code) seen moment measurement reserved series fields time found at e1 e2 e3 e4 e5 = rw (e1, e2, e3, e4, e5) refl
-rest-refused Memory seen moment measurement reserved series fields time found at e1 e2 e3 e4 e5 = tt
+rest-names (Code code) seen moment measurement reserved series fields time found at e1 e2 e3 = rw (e1, e2, e3) refl
+rest-names Memory seen moment measurement reserved series fields time found at e1 e2 e3 = tt
 
--- the same, where the kinds were noted of an equal list
-pub rest-kinds : (refusal : Refusal) (seen : Seen) (moment : ℤ) (measurement : List ℕ) (reserved : Bool) (series fields time : List ℕ) (found slice : List Field) (at : ℤ)
+refused-by : (step : Result Bool LineCode) (all : List Point) (code : LineCode) → (step >>= λ fits. let r : Result (List Point) LineCode = Ok all in r) ≡ Err code → step ≡ Err code
+refused-by (Ok fits) all code e = absurd (cc)
+refused-by (Err other) all code e = cc
+
+pub rest-keys : (refusal : Refusal) (seen : Seen) (moment : ℤ) (measurement : List ℕ) (reserved : Bool) (series fields time : List ℕ) (found : List Field) (at : ℤ) (points : List Point)
     → fields_of (parts 44 false fields) ≡ Ok found → time_of moment time ≡ Ok at → unless (reserved || has_time_field found) ReservedName ≡ Ok true
-    → keys_step series found ≡ Ok true → slice ≡ found → Refuses refusal (note_all seen measurement slice)
+    → Refuses refusal (with_points points at series found)
     → Refuses refusal (rest_of seen moment measurement reserved series fields time)
-rest-kinds refusal seen moment measurement reserved series fields time found slice at e1 e2 e3 e4 same e5 =
-    rest-refused refusal seen moment measurement reserved series fields time found at e1 e2 e3 e4
-    (refuses-along refusal (note_all seen measurement slice) (note_all seen measurement found) (ap (λ (fs : List Field). note_all seen measurement fs) same) e5)
+unfolding rest_of
+rest-keys (Code code) seen moment measurement reserved series fields time found at points e1 e2 e3 e4 = rw (e1, e2, e3, refused-by (keys_step series found) (points ++ points_of at series found) code e4) refl
+rest-keys Memory seen moment measurement reserved series fields time found at points e1 e2 e3 e4 = tt
+
+pub rest-kinds : (refusal : Refusal) (seen : Seen) (moment : ℤ) (measurement : List ℕ) (reserved : Bool) (series fields time : List ℕ) (found : List Field) (at : ℤ) (points more : List Point)
+    → fields_of (parts 44 false fields) ≡ Ok found → time_of moment time ≡ Ok at → unless (reserved || has_time_field found) ReservedName ≡ Ok true
+    → with_points points at series found ≡ Ok more → Refuses refusal (note_all seen measurement found)
+    → Refuses refusal (rest_of seen moment measurement reserved series fields time)
+unfolding rest_of
+rest-kinds (Code code) seen moment measurement reserved series fields time found at points more e1 e2 e3 e4 e5 =
+    let keyed = added-by (keys_step series found) (points ++ points_of at series found) more e4 in
+    rw (e1, e2, e3, keyed.1, e5) refl
+rest-kinds Memory seen moment measurement reserved series fields time found at points more e1 e2 e3 e4 e5 = tt

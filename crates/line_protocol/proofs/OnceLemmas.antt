@@ -4,10 +4,10 @@ use Rattle.std.specs.Bool.{MatchBool}
 use Rattle.std.specs.Option.{MatchOption}
 use Rattle.tsdb_types.specs.declared.point.Point.{Point}
 use Rattle.line_protocol.specs.declared.fault.LineCode.{LineCode}
-use Rattle.line_protocol.specs.declared.fault.LineCode.TheVariants.{NoPoints}
+use Rattle.line_protocol.specs.declared.fault.LineCode.TheVariants.{NoPoints, BatchTooLong}
 use Rattle.line_protocol.specs.declared.fault.LineFault.{LineFault}
 use Rattle.line_protocol.specs.declared.fault.LineFault.TheVariants.{Line, Memory}
-use Rattle.line_protocol.specs.Batches.{At, Points, IsTooLong, FaultGives, lines_of, points_before, Follows, LinesAre, TextIs, Lines, IsFault}
+use Rattle.line_protocol.specs.Batches.{At, Points, IsTooLong, FaultGives, lines_of, points_before, Follows, LinesAre, TextIs, BatchIs, Lines, IsFault}
 use Rattle.line_protocol.specs.Heads.{head_code, measurement_of, tags_of, has_time_tag}
 use Rattle.line_protocol.specs.Kinds.{Seen, nothing_seen}
 use Rattle.line_protocol.specs.Lines.{Read, rest_of, head_of, fields_text, time_text, is_skipped, FieldsAre, TagsAre, LineIs, AnyLineIs}
@@ -132,14 +132,24 @@ read-found text moment read points is that =
 pub none-fault : (text : List ℕ) (moment : ℤ) → ¬ (IsTooLong text) → TextIs text moment (Ok []) → IsFault text moment (same NoPoints 0)
 none-fault text moment fits is = inr (inr (fits, is, refl))
 
--- where the first fault of a line was told, or memory was wanting, no batch is left unread
-pub first-found : (text : List ℕ) (moment : ℤ) (fault : LineFault) → ¬ (IsTooLong text) → FaultGives fault (TextIs text moment)
+-- a fault of what the text is read to is one of the text
+pub batch-fault : (text : List ℕ) (moment : ℤ) (at : At) → BatchIs text moment (Err at) → IsFault text moment at
+batch-fault text moment at (inl long) = inl (long.0, err-same at (same BatchTooLong 0) long.1)
+batch-fault text moment at (inr first) = inr (inl first)
+
+-- points that the text is read to are those of its lines
+pub batch-points : (text : List ℕ) (moment : ℤ) (points : List Point) → BatchIs text moment (Ok points) → ¬ (IsTooLong text) × TextIs text moment (Ok points)
+batch-points text moment points (inl long) = absurd (ok-err points (same BatchTooLong 0) long.1)
+batch-points text moment points (inr read) = read
+
+-- where the first fault was told, or memory was wanting, no batch is left unread
+pub first-found : (text : List ℕ) (moment : ℤ) (fault : LineFault) → FaultGives fault (BatchIs text moment)
     → (points : List Point) → Lines text moment points → let answer : Answer = Err fault in (answer ≡ Ok points) ⊎ (answer ≡ Err Memory)
-first-found text moment (Line code line) fits is points that = absurd (never_both text moment points (same code line) that (inr (inl (fits, is))))
-first-found text moment Memory fits is points that = inr refl
+first-found text moment (Line code line) is points that = absurd (never_both text moment points (same code line) that (batch-fault text moment (same code line) is))
+first-found text moment Memory is points that = inr refl
 
 -- and no other fault
-pub first-only : (text : List ℕ) (moment : ℤ) (fault : LineFault) → ¬ (IsTooLong text) → FaultGives fault (TextIs text moment)
+pub first-only : (text : List ℕ) (moment : ℤ) (fault : LineFault) → FaultGives fault (BatchIs text moment)
     → (code : LineCode) (line : ℕ) → IsFault text moment (same code line) → let answer : Answer = Err fault in (answer ≡ Err (Line code line)) ⊎ (answer ≡ Err Memory)
-first-only text moment (Line code line) fits is other number that = inl (told-only text moment code line (inr (inl (fits, is))) other number that)
-first-only text moment Memory fits is other number that = inr refl
+first-only text moment (Line code line) is other number that = inl (told-only text moment code line (batch-fault text moment (same code line) is) other number that)
+first-only text moment Memory is other number that = inr refl

@@ -5,7 +5,7 @@ use Rattle.line_protocol.specs.declared.fault.Refusal.{Refusal}
 use Rattle.line_protocol.specs.declared.fault.Refusal.TheVariants.{Code, Memory}
 use Rattle.line_protocol.specs.declared.field.Field.{Field}
 use Rattle.line_protocol.specs.Fields.{Fields, first_before, prefixed}
-use Rattle.line_protocol.specs.Readings.{IsRefusal, Refuses, ◌>>=◌}
+use Rattle.line_protocol.specs.Readings.{IsRefusal, Refuses, Gives, ◌>>=◌}
 
 -- a refusal of the first step is one of the whole
 pub refuses-bind : {X Y : Type 0} (refusal : Refusal) (step : Result X LineCode) (next : X → Result Y LineCode) → Refuses refusal step → Refuses refusal (step >>= next)
@@ -15,6 +15,10 @@ refuses-bind Memory step next is = tt
 pub refuses-along : {Y : Type 0} (refusal : Refusal) (reading other : Result Y LineCode) → reading ≡ other → Refuses refusal reading → Refuses refusal other
 refuses-along (Code code) reading other e is = sym e ∙ is
 refuses-along Memory reading other e is = tt
+
+pub gives-along : {X Y : Type 0} (view : X → Y) (given : Result X Refusal) (reading other : Result Y LineCode) → reading ≡ other → Gives view given reading → Gives view given other
+gives-along view (Ok value) reading other e is = sym e ∙ is
+gives-along view (Err refusal) reading other e is = refuses-along refusal reading other e is
 
 -- a refusal with a code has what that code has
 pub refused-weaker : (refusal : Refusal) (P Q : LineCode → Type 0) → ((code : LineCode) → P code → Q code) → IsRefusal refusal P → IsRefusal refusal Q

@@ -6,15 +6,18 @@ use Rattle.std.proofs.lemmas.Str.{IsUtf8-append, IsUtf8-nil, IsUtf8-take, IsUtf8
 use Rattle.std.proofs.Math.Seq.{drop-append_seam, drop-cons}
 use Rattle.std.specs.List.{All}
 use Rattle.std.specs.Str.{IsUtf8}
-use Rattle.tsdb_types.specs.Series.{tag_ends_at}
+use Rattle.tsdb_types.specs.Names.{IsName}
+use Rattle.tsdb_types.specs.Series.{escaped, measurement_ends_at, tag_ends_at}
 use Rattle.tsdb_types.specs.declared.value.Value.{Value}
 use Rattle.line_protocol.specs.declared.fault.LineCode.{LineCode}
 use Rattle.line_protocol.specs.declared.fault.LineCode.TheVariants.{BadField}
+use Rattle.line_protocol.specs.Heads.{measurement_part, measurement_of}
 use Rattle.line_protocol.specs.Lines.{behind_head, fields_text}
 use Rattle.line_protocol.specs.Values.{value_of}
 use Rattle.line_protocol.specs.Names.{begins_with, unescaped, behind_first, key_part, value_part}
 use Rattle.line_protocol.specs.Parts.{front, rest, line_front, line_rest, unspaced, is_blank, unspaced_end, without_return, trimmed, slashed}
-use Rattle.line_protocol.specs.Texts.{IsOneLine, IsClosed, SpellsName, StartsAscii}
+use Rattle.line_protocol.specs.Texts.{IsOneLine, IsClosed, SpellsName, IsSpelling, StartsAscii}
+use Rattle.line_protocol.specs.Tokens.{IsNamed}
 use Rattle.line_protocol.proofs.ClosedLemmas.{front-rest, name-closed, marked-front}
 use Rattle.line_protocol.proofs.PartLemmas.{decided, rest-stops, rest-goes}
 
@@ -324,7 +327,15 @@ field-key-spells part key value read is k v some e =
 pub head-line : (line head : List ℕ) → IsOneLine line → head ≡ front 32 false line → IsOneLine head
 head-line line head is h = subst (λ (t : List ℕ). IsOneLine t) (sym h) (parts-line 32 line (lit< tt) is).0
 
--- the measurement of a line is text
-pub measurement-utf8 : (line head measurement : List ℕ) → IsOneLine line → head ≡ front 32 false line → measurement ≡ front 44 false head → IsUtf8 measurement
-measurement-utf8 line head measurement is h m =
-    subst (λ (t : List ℕ). IsUtf8 t) (sym m) (parts-line 44 head (lit< tt) (head-line line head is h)).0.utf8
+-- the measurement of a line is spelled as it stands
+pub measurement-spelling : (line head measurement : List ℕ) (ascend : Bool) → IsOneLine line → head ≡ front 32 false line → measurement ≡ measurement_part head → IsNamed head measurement ascend
+    → IsSpelling measurement_ends_at measurement
+measurement-spelling line head measurement ascend is h m named =
+    let name : measurement_of head ≡ unescaped measurement_ends_at measurement = ap (λ (t : List ℕ). unescaped measurement_ends_at t) (sym m) in
+    record {
+      spells = record {
+        utf8 = subst (λ (t : List ℕ). IsUtf8 t) (sym m) (parts-line 44 head (lit< tt) (head-line line head is h)).0.utf8;
+        name = subst IsName name named.measurement_named;
+      };
+      escapes = named.measured ∙ ap (λ (t : List ℕ). escaped measurement_ends_at t) name;
+    }

@@ -2,19 +2,35 @@ use Rattle.std.proofs.Common.{◌≡◌, ◌≢◌, ℕ, Bool, true, false, not,
 use Rattle.std.proofs.lemmas.Bool.{false≢true}
 use Rattle.std.proofs.lemmas.Bool.Decides.{nat_tests}
 use Rattle.std.proofs.lemmas.List.{append-nil}
-use Rattle.tsdb_types.specs.Series.{measurement_ends_at, tag_ends_at}
-use Rattle.tsdb_types.specs.Spelled.{EndsName}
+use Rattle.std.specs.List.{All}
+use Rattle.tsdb_types.specs.Series.{escaped, measurement_ends_at, tag_ends_at}
+use Rattle.tsdb_types.specs.Spelled.{unescaped, EndsName}
 use Rattle.line_protocol.specs.Names.{key_part, value_part, behind_first, is_tag}
 use Rattle.line_protocol.specs.Parts.{front, rest, parts, parts_behind}
 use Rattle.line_protocol.specs.Tokens.{front_where, rest_where, part_at, parts_at, starts_with, IsTagAt}
 use Rattle.line_protocol.proofs.PartLemmas.{parts-first}
-use Rattle.line_protocol.proofs.TokenLemmas.{mark_of, front-both, rest-both, front-nested, rest-nested, rest-ends, ended-front, ended-rest, measurement-union, tag-union, measurement-within, space-within, space-measurement, tag-end}
+use Rattle.line_protocol.proofs.TokenLemmas.{mark_of, front-both, rest-both, front-nested, rest-nested, rest-ends, ended-front, ended-rest, measurement-union, tag-union, measurement-within, space-within, space-measurement, tag-end, front-spelled}
 
 part-where : (text : List ℕ) → part_at text ≡ front_where measurement_ends_at false text
 part-where text = front-nested (mark_of 44) (mark_of 32) measurement_ends_at measurement-union false text
 
 pub key-where : (text : List ℕ) → key_part (part_at text) ≡ front_where tag_ends_at false text
 key-where text = ap (λ (t : List ℕ). front 61 false t) (part-where text) ∙ front-nested (mark_of 61) measurement_ends_at tag_ends_at tag-union false text
+
+or-self : (a b : Bool) → (b ≡ true → a ≡ true) → a ≡ (a || b)
+or-self true b h = refl
+or-self false true h = h refl
+or-self false false h = refl
+
+-- the key of a field is spelled as it stands
+pub key-escapes : (text : List ℕ) → All (λ byte. byte ≢ 10) (part_at text) → key_part (part_at text) ≡ escaped tag_ends_at (unescaped tag_ends_at (key_part (part_at text)))
+key-escapes text unbroken =
+    let part = part_at text in
+    let key : key_part part ≡ front_where tag_ends_at false part =
+    key-where text
+    ∙ sym (ap (λ (t : List ℕ). front_where tag_ends_at false t) (part-where text) ∙ front-nested tag_ends_at measurement_ends_at tag_ends_at (λ b. or-self (tag_ends_at b) (measurement_ends_at b) (measurement-within b)) false text)
+    in
+    subst (λ (t : List ℕ). t ≡ escaped tag_ends_at (unescaped tag_ends_at t)) (sym key) (sym (front-spelled tag_ends_at refl refl part unbroken))
 
 pub equals-where : (text : List ℕ) → rest 61 false (part_at text) ≡ front_where measurement_ends_at false (rest_where tag_ends_at false text)
 equals-where text = ap (λ (t : List ℕ). rest 61 false t) (part-where text) ∙ rest-nested (mark_of 61) measurement_ends_at tag_ends_at tag-union false text

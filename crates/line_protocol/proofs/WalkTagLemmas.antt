@@ -104,7 +104,7 @@ or-grouped true b c = refl
 or-grouped false b c = refl
 
 -- a key is `time` exactly where it is spelled so
-time-spelled : (key : List ℕ) → escaped tag_ends_at (unescaped tag_ends_at key) ≡ key → bytes_eq (unescaped tag_ends_at key) time_word ≡ bytes_eq key time_word
+pub time-spelled : (key : List ℕ) → escaped tag_ends_at (unescaped tag_ends_at key) ≡ key → bytes_eq (unescaped tag_ends_at key) time_word ≡ bytes_eq key time_word
 time-spelled key again =
     ⊎_elim
     (λ (e : bytes_eq key time_word ≡ true). ap (λ (t : List ℕ). bytes_eq (unescaped tag_ends_at t) time_word) ((bytes_eq-Decides key time_word).0 e) ∙ sym e)

@@ -59,6 +59,10 @@ LinesAre moment (line ∷ lines) number seen result =
 abbrev pub TextIs : List ℕ → ℤ → Points → Type 0
 TextIs text moment result = LinesAre moment (lines_of text) 1 nothing_seen result
 
+-- what a text is read to: it is refused as a whole where it is too long, else its lines are read
+abbrev pub BatchIs : List ℕ → ℤ → Points → Type 0
+BatchIs text moment result = (IsTooLong text × (result ≡ Err (record { code = BatchTooLong; line = 0 }))) ⊎ (¬ (IsTooLong text) × TextIs text moment result)
+
 -- the text isn't too long, no line has a fault, and these are the points of all lines, at least one
 pub record Lines (text : List ℕ) (moment : ℤ) (points : List Point) : Type 0 where
   pub fits : ¬ IsTooLong text

@@ -1,10 +1,11 @@
 -- Which fields a text is.
-use Rattle.std.specs.Prelude.{ℕ, ◌==◌, Result, Ok, Err, List, [], ◌∷◌, ◌++◌, length, if◌then◌else◌}
+use Rattle.std.specs.Prelude.{ℕ, ◌==◌, Result, Ok, Err, List, [], ◌∷◌, ◌++◌, map, length, if◌then◌else◌}
 use Rattle.tsdb_types.specs.Series.{tag_ends_at}
 use Rattle.tsdb_types.specs.declared.value.Value.{Value}
 use Rattle.line_protocol.specs.declared.fault.LineCode.{LineCode}
 use Rattle.line_protocol.specs.declared.fault.LineCode.TheVariants.{BadField}
 use Rattle.line_protocol.specs.declared.field.Field.{Field}
+use Rattle.line_protocol.specs.declared.spelled_field.SpelledField.{SpelledField}
 use Rattle.line_protocol.specs.Names.{unescaped, key_part, value_part}
 use Rattle.line_protocol.specs.Values.{value_of}
 
@@ -35,3 +36,11 @@ first_before (Err code) others = Err code
 abbrev pub fields_of : List (List ℕ) → Fields
 fields_of [] = Ok []
 fields_of (part ∷ parts) = first_before (field_of part) (fields_of parts)
+
+-- the field that a line spells so
+abbrev pub field_spelled : SpelledField → Field
+field_spelled field = record { name = unescaped tag_ends_at field.key.now; value = field.value }
+
+-- the fields that a line spells so
+abbrev pub fields_spelled : List SpelledField → List Field
+fields_spelled fields = map field_spelled fields

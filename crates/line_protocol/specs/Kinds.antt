@@ -1,8 +1,9 @@
 -- Which kind each field has had so far.
 use Rattle.std.specs.Prelude.{ℕ, Bool, true, false, Option, Some, None, Result, Ok, Err, List, [], ◌∷◌, ◌++◌, if◌then◌else◌}
-use Rattle.std.specs.BTreeMap.{get_by_text}
-use Rattle.std.specs.Map.{update}
+use Rattle.std.specs.Map.{lookup, update}
 use Rattle.std.specs.Str.{bytes_eq}
+use Rattle.tsdb_types.specs.Series.{measurement_ends_at, tag_ends_at}
+use Rattle.tsdb_types.specs.Spelled.{unescaped}
 use Rattle.tsdb_types.specs.Values.{kind_of}
 use Rattle.tsdb_types.specs.declared.value.Kind.{Kind}
 use Rattle.tsdb_types.specs.declared.value.Kind.TheVariants.{Integer, Unsigned, Boolean}
@@ -10,6 +11,7 @@ use Rattle.line_protocol.specs.declared.fault.LineCode.{LineCode}
 use Rattle.line_protocol.specs.declared.fault.LineCode.TheVariants.{KindInBatch}
 use Rattle.line_protocol.specs.declared.field.Field.{Field}
 use Rattle.line_protocol.specs.declared.kinds.Kinds.{Kinds}
+use Rattle.line_protocol.specs.declared.place.Place.{Place}
 use Rattle.line_protocol.specs.Readings.{◌>>=◌}
 
 -- the place of a field: its measurement, a newline and its name. No two fields share one, as no name holds a newline
@@ -24,9 +26,13 @@ Seen = List ℕ → Option Kind
 abbrev pub nothing_seen : Seen
 nothing_seen place = None
 
+-- the place that a line spells so
+abbrev pub place_spelled : Place → List ℕ
+place_spelled place = place_of (unescaped measurement_ends_at place.measurement.now) (unescaped tag_ends_at place.key.now)
+
 -- what is kept of the fields so far
 abbrev pub seen_of : Kinds → Seen
-seen_of kinds place = get_by_text kinds.kinds place
+seen_of kinds place = lookup (λ at. bytes_eq (place_spelled at) place) kinds.kinds.entries
 
 -- the kinds are the same
 abbrev pub is_same : Kind → Kind → Bool

@@ -1,5 +1,5 @@
 -- What a line is read to, over the kinds of the fields before it.
-use Rattle.std.specs.Prelude.{◌≡◌, ◌≢◌, ℕ, ◌==◌, Bool, true, false, not, ◌||◌, nat_lt, ◌⊎◌, Result, Ok, Err, List, [], ◌∷◌, map, take, length, ℤ, MatchOption, MatchBool, if◌then◌else◌}
+use Rattle.std.specs.Prelude.{◌≡◌, ◌≢◌, ℕ, ◌==◌, Bool, true, false, not, ◌||◌, nat_lt, ◌⊎◌, Result, Ok, Err, List, [], ◌∷◌, ◌++◌, map, take, length, ℤ, MatchOption, MatchBool, if◌then◌else◌}
 use Rattle.std.specs.List.{list_any}
 use Rattle.std.specs.Str.{bytes_eq}
 use Rattle.tsdb_types.specs.Keys.{mark, key_of}
@@ -70,6 +70,10 @@ refusal_of fault.Memory = Memory
 -- a point for each field
 abbrev pub points_of : ℤ → List ℕ → List Field → List Point
 points_of time series fields = map (λ field. record { cell = record { time = time; series = series; field = field.name }; value = field.value }) fields
+
+-- these points and then one for each field, where the keys of the fields let the step over them through
+abbrev pub with_points : List Point → ℤ → List ℕ → List Field → Result (List Point) LineCode
+with_points points time series fields = keys_step series fields >>= λ fits. Ok (points ++ points_of time series fields)
 
 -- the points of a line, and the kinds behind it
 pub record Read : Type 0 where

@@ -2,6 +2,7 @@
 use Rattle.std.specs.Prelude.{◌≡◌, ◌≢◌, ℕ, ◌<◌, Bool, false, List, [], ◌∷◌, All}
 use Rattle.std.specs.Str.{IsUtf8}
 use Rattle.tsdb_types.specs.Names.{IsName}
+use Rattle.tsdb_types.specs.Series.{escaped}
 use Rattle.line_protocol.specs.Names.{unescaped}
 use Rattle.line_protocol.specs.Parts.{slashed}
 
@@ -18,6 +19,11 @@ IsClosed text = slashed false text ≡ false
 pub record SpellsName (picks : ℕ → Bool) (part : List ℕ) : Type 0 where
   pub utf8 : IsUtf8 part
   pub name : IsName (unescaped picks part)
+
+-- the part spells a name, and has a backslash right before each byte that the test picks, so that no other part spells that name
+pub record IsSpelling (picks : ℕ → Bool) (part : List ℕ) : Type 0 where
+  pub spells : SpellsName picks part
+  pub escapes : part ≡ escaped picks (unescaped picks part)
 
 -- the text is empty, or its first byte is one of ASCII, so that a text may be cut before it
 abbrev pub StartsAscii : List ℕ → Type 0

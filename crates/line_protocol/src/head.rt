@@ -1,20 +1,24 @@
 ghost use Rattle.std.specs.Prelude.{◌≡◌, ◌↔◌, All, IfOk, IfErr, IsTrue};
-ghost use Rattle.std.specs.Str.{IsUtf8, bytes_eq};
+ghost use Rattle.std.specs.Str.{IsUtf8};
 ghost use Rattle.tsdb_types.specs.Series.{KeysDiffer, IsKeyOf, IsSeriesText};
-ghost use Rattle.line_protocol.specs.Heads.{measurement_part, measurement_of, tag_parts, tags_of, time_word};
+ghost use Rattle.line_protocol.specs.Heads.{measurement_part, measurement_of, tag_parts, tags_of};
 ghost use Rattle.line_protocol.specs.Readings.{IsRefusal};
 ghost use Rattle.line_protocol.specs.Texts.{IsOneLine};
 ghost use Rattle.line_protocol.specs.Tokens.{SpellsTag, IsNamed};
 
 use crate::cut::cut;
 use crate::fault::{LineCode, Refusal};
-use crate::sorted::{ascend, sorted_parts, spelled};
+use crate::sorted::{Part, ascend, sort_parts, spelled};
 use crate::walk::Walk;
 use std::alloc::{AllocError, AllocFailed, Global};
-use tsdb_types::{Name, SeriesKey};
+use tsdb_types::SeriesKey;
 
-// The key of the series that a head names, refused where two tags have one key.
-pub fn read_series(alloc: Global, walk: &Walk<'_>) -> Result<SeriesKey, Refusal>
+// The key of the series that a head names, refused where two tags have one key. Tags that don't ascend are sorted in the room.
+pub fn read_series<'a>(
+    alloc: Global,
+    walk: &Walk<'a>,
+    parts: &mut Vec<Part<'a>>,
+) -> Result<SeriesKey, Refusal>
     requires one_line { IsOneLine walk.now.head.now }
     requires measurement { walk.now.measurement.now ≡ measurement_part walk.now.head.now }
     requires named { IsNamed walk.now.head.now walk.now.measurement.now walk.now.ascend }
@@ -27,7 +31,7 @@ pub fn read_series(alloc: Global, walk: &Walk<'_>) -> Result<SeriesKey, Refusal>
         return Ok(key_of(text));
     }
     let (_, tags) = cut(walk.head, b',');
-    let parts = sorted_parts(alloc, tags)?;
+    sort_parts(parts, tags)?;
     if !ascend(parts.as_slice()) {
         return Err(Refusal::Code(LineCode::DuplicateTag));
     }
@@ -48,17 +52,11 @@ fn key_of(text: Vec<u8>) -> SeriesKey
 }
 
 // Whether no two tags of a head have one key. It may be the end of a line, where a value may end with a backslash.
-pub fn keys_differ(alloc: Global, head: &[u8]) -> Result<bool, AllocError>
+pub fn keys_differ<'a>(parts: &mut Vec<Part<'a>>, head: &'a [u8]) -> Result<bool, AllocError>
     requires { IsOneLine head.now }
     ensures { IfOk result (λ differ. IsTrue differ ↔ KeysDiffer (tags_of head.now)) }
 {
     let (_, tags) = cut(head, b',');
-    let parts = sorted_parts(alloc, tags)?;
+    sort_parts(parts, tags)?;
     Ok(ascend(parts.as_slice()))
-}
-
-pub fn is_time(name: &Name) -> bool
-    ensures { result ≡ bytes_eq name.now time_word }
-{
-    name.as_str() == "time"
 }

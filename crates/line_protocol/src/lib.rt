@@ -10,7 +10,9 @@ mod kinds;
 mod line;
 mod name;
 mod number;
+mod place;
 mod sorted;
+mod spelled_field;
 #[cfg(test)]
 mod tests;
 mod value;

@@ -1,44 +1,66 @@
-ghost use Rattle.std.specs.Prelude.{◌≡◌, ◌++◌, ◌∷◌, [], ◌||◌, ◌⊎◌, true, false, List, Ok, Err, Some, None, OnOk, IfErr, IsTrue, if◌then◌else◌};
-ghost use Rattle.std.specs.Str.{IsUtf8};
+ghost use Rattle.std.specs.Prelude.{◌≡◌, ◌++◌, ◌∷◌, [], ◌||◌, ◌⊎◌, true, false, ℕ, List, Ok, Err, Some, None, OnOk, IfErr, IsTrue, if◌then◌else◌};
 ghost use Rattle.tsdb_types.specs.Series.{measurement_ends_at, Ascend, KeysDiffer};
 ghost use Rattle.tsdb_types.specs.Spelled.{unescaped};
 ghost use Rattle.tsdb_types.specs.declared.point.Point.{Point};
+ghost use Rattle.line_protocol.specs.Fields.{field_spelled, fields_spelled};
 ghost use Rattle.line_protocol.specs.Heads.{tags_of};
 ghost use Rattle.line_protocol.specs.Kinds.{seen_of};
 ghost use Rattle.line_protocol.specs.Numbers.{is_moment, signed_of};
-ghost use Rattle.line_protocol.specs.Lines.{time_of, has_time_field, points_of, rest_of, LineIs, AnyLineIs};
+ghost use Rattle.line_protocol.specs.Lines.{time_of, has_time_field, points_of, with_points, rest_of, LineIs, AnyLineIs};
 ghost use Rattle.line_protocol.specs.Lines as spec;
 ghost use Rattle.line_protocol.specs.Parts.{front, unspaced};
 ghost use Rattle.line_protocol.specs.Parts as part;
 ghost use Rattle.line_protocol.specs.Readings.{IsRefusal, Refuses, Gives, unless};
-ghost use Rattle.line_protocol.specs.Texts.{IsOneLine};
+ghost use Rattle.line_protocol.specs.Texts.{IsOneLine, IsSpelling};
 
 use crate::cut::without_spaces;
 use crate::fault::{LineCode, Refusal};
 use crate::field::{Field, read_fields};
-use crate::head::{is_time, keys_differ, read_series};
+use crate::head::{keys_differ, read_series};
 use crate::kinds::Kinds;
 use crate::number::{is_digits, number_of, without_minus};
+use crate::sorted::Part;
+use crate::spelled_field::SpelledField;
 use crate::walk::{Walk, walk_head};
 use std::alloc::{AllocError, AllocFailed, Global};
 use tsdb_types::{Cell, KeyFault, Name, Point, SeriesKey, Time, key_fault};
 
+// What is kept from line to line: the kinds of the fields so far, and room for the tags and the fields of one line.
+#[derive(Drop)]
+pub struct Reader<'a> {
+    pub kinds: Kinds<'a>,
+    pub tags: Vec<Part<'a>>,
+    pub fields: Vec<SpelledField<'a>>,
+}
+
+impl<'a> Reader<'a> {
+    pub fn new(alloc: Global) -> Reader<'a>
+        ensures { (place : List ℕ) → seen_of result.kinds place ≡ None }
+    {
+        Reader {
+            kinds: Kinds::new(alloc),
+            tags: Vec::new(alloc),
+            fields: Vec::new(alloc),
+        }
+    }
+}
+
 // Reads a line, and adds its points; a line that holds none is passed over.
-pub fn read_any_line(
+pub fn read_any_line<'a>(
     alloc: Global,
-    line: &[u8],
+    line: &'a [u8],
     moment: Time,
-    kinds: &mut Kinds,
+    reader: &mut Reader<'a>,
     points: &mut Vec<Point>,
 ) -> Result<(), Refusal>
     requires { IsOneLine line.now }
-    ensures ok { OnOk result ((added : List Point) × (points.new.items ≡ points.old.items ++ added) × AnyLineIs (seen_of kinds.old) moment line.now (Ok (record { points = added; seen = seen_of kinds.new }))) }
-    ensures refused { IfErr result (λ refusal. IsRefusal refusal (λ code. AnyLineIs (seen_of kinds.old) moment line.now (Err code))) }
+    ensures ok { OnOk result ((added : List Point) × (points.new.items ≡ points.old.items ++ added) × AnyLineIs (seen_of reader.old.kinds) moment line.now (Ok (record { points = added; seen = seen_of reader.new.kinds }))) }
+    ensures refused { IfErr result (λ refusal. IsRefusal refusal (λ code. AnyLineIs (seen_of reader.old.kinds) moment line.now (Err code))) }
 {
     if is_skipped(line) {
         return Ok(());
     }
-    read_line(alloc, line, moment, kinds, points)
+    read_line(alloc, line, moment, reader, points)
 }
 
 fn is_skipped(line: &[u8]) -> bool
@@ -50,32 +72,32 @@ fn is_skipped(line: &[u8]) -> bool
     }
 }
 
-fn read_line(
+fn read_line<'a>(
     alloc: Global,
-    line: &[u8],
+    line: &'a [u8],
     moment: Time,
-    kinds: &mut Kinds,
+    reader: &mut Reader<'a>,
     points: &mut Vec<Point>,
 ) -> Result<(), Refusal>
     requires { IsOneLine line.now }
-    ensures ok { OnOk result ((added : List Point) × (points.new.items ≡ points.old.items ++ added) × LineIs (seen_of kinds.old) moment line.now (Ok (record { points = added; seen = seen_of kinds.new }))) }
-    ensures refused { IfErr result (λ refusal. IsRefusal refusal (λ code. LineIs (seen_of kinds.old) moment line.now (Err code))) }
+    ensures ok { OnOk result ((added : List Point) × (points.new.items ≡ points.old.items ++ added) × LineIs (seen_of reader.old.kinds) moment line.now (Ok (record { points = added; seen = seen_of reader.new.kinds }))) }
+    ensures refused { IfErr result (λ refusal. IsRefusal refusal (λ code. LineIs (seen_of reader.old.kinds) moment line.now (Err code))) }
 {
     match walk_head(line) {
         Err(code) => Err(Refusal::Code(code)),
         Ok(walk) => {
             let text = without_spaces(walk.behind);
             if text.is_empty() {
-                return Err(without_field(alloc, &walk));
+                return Err(without_field(&walk, &mut reader.tags));
             }
-            let series = read_series(alloc, &walk)?;
-            read_behind(alloc, &walk, series, text, moment, kinds, points)
+            let series = read_series(alloc, &walk, &mut reader.tags)?;
+            read_behind(alloc, &walk, series, text, moment, reader, points)
         }
     }
 }
 
 // Why a line without a field is refused.
-fn without_field(alloc: Global, walk: &Walk<'_>) -> Refusal
+fn without_field<'a>(walk: &Walk<'a>, tags: &mut Vec<Part<'a>>) -> Refusal
     requires one_line { IsOneLine walk.now.head.now }
     requires ascend { IsTrue walk.now.ascend → Ascend (tags_of walk.now.head.now) }
     ensures { IsRefusal result (λ code. ((code ≡ LineCode.DuplicateTag) × ¬ (KeysDiffer (tags_of walk.now.head.now))) ⊎ ((code ≡ LineCode.NoField) × KeysDiffer (tags_of walk.now.head.now))) }
@@ -83,7 +105,7 @@ fn without_field(alloc: Global, walk: &Walk<'_>) -> Refusal
     if walk.ascend {
         return Refusal::Code(LineCode::NoField);
     }
-    match keys_differ(alloc, walk.head) {
+    match keys_differ(tags, walk.head) {
         Err(_) => Refusal::Memory,
         Ok(differ) => {
             if differ {
@@ -95,49 +117,28 @@ fn without_field(alloc: Global, walk: &Walk<'_>) -> Refusal
 }
 
 // Reads what stands behind the head and its spaces, and adds the points.
-fn read_behind(
+fn read_behind<'a>(
     alloc: Global,
-    walk: &Walk<'_>,
+    walk: &Walk<'a>,
     series: SeriesKey,
-    text: &[u8],
+    text: &'a [u8],
     moment: Time,
-    kinds: &mut Kinds,
+    reader: &mut Reader<'a>,
     points: &mut Vec<Point>,
 ) -> Result<(), Refusal>
     requires one_line { IsOneLine (front 32 false text.now) }
-    requires utf8 { IsUtf8 walk.now.measurement.now }
-    ensures ok { OnOk result ((added : List Point) × (points.new.items ≡ points.old.items ++ added) × (rest_of (seen_of kinds.old) moment (unescaped measurement_ends_at walk.now.measurement.now) walk.now.reserved series (front 32 false text.now) (unspaced (part.rest 32 false text.now)) ≡ Ok (record { points = added; seen = seen_of kinds.new }))) }
-    ensures refused { IfErr result (λ refusal. Refuses refusal (rest_of (seen_of kinds.old) moment (unescaped measurement_ends_at walk.now.measurement.now) walk.now.reserved series (front 32 false text.now) (unspaced (part.rest 32 false text.now)))) }
+    requires spelling { IsSpelling measurement_ends_at walk.now.measurement.now }
+    ensures ok { OnOk result ((added : List Point) × (points.new.items ≡ points.old.items ++ added) × (rest_of (seen_of reader.old.kinds) moment (unescaped measurement_ends_at walk.now.measurement.now) walk.now.reserved series (front 32 false text.now) (unspaced (part.rest 32 false text.now)) ≡ Ok (record { points = added; seen = seen_of reader.new.kinds }))) }
+    ensures refused { IfErr result (λ refusal. Refuses refusal (rest_of (seen_of reader.old.kinds) moment (unescaped measurement_ends_at walk.now.measurement.now) walk.now.reserved series (front 32 false text.now) (unspaced (part.rest 32 false text.now)))) }
 {
-    match read_rest(alloc, walk, &series, text, moment, kinds) {
-        Err(refusal) => Err(refusal),
-        Ok((fields, time)) => {
-            add_points(series, fields, time, points)?;
-            Ok(())
-        }
-    }
-}
-
-// The steps behind the head.
-#[tactic(auto, unfolding(crate::specs::Lines::rest_of))]
-fn read_rest(
-    alloc: Global,
-    walk: &Walk<'_>,
-    series: &SeriesKey,
-    text: &[u8],
-    moment: Time,
-    kinds: &mut Kinds,
-) -> Result<(Vec<Field>, Time), Refusal>
-    requires one_line { IsOneLine (front 32 false text.now) }
-    requires utf8 { IsUtf8 walk.now.measurement.now }
-    ensures { Gives (λ found. record { points = points_of found.1 series.now found.0.items; seen = seen_of kinds.new }) result (rest_of (seen_of kinds.old) moment (unescaped measurement_ends_at walk.now.measurement.now) walk.now.reserved series.now (front 32 false text.now) (unspaced (part.rest 32 false text.now))) }
-{
-    let (fields, behind) = read_fields(alloc, text)?;
+    let behind = read_fields(&mut reader.fields, text)?;
     let time = read_time(without_spaces(behind), moment)?;
-    names_step(walk.reserved, fields.as_slice())?;
-    keys_step(series, fields.as_slice())?;
-    kinds.note_all(alloc, walk.measurement, fields.as_slice())?;
-    Ok((fields, time))
+    names_step(walk.reserved, reader.fields.as_slice())?;
+    add_points(alloc, series, reader.fields.as_slice(), time, points)?;
+    reader
+        .kinds
+        .note_all(walk.measurement, reader.fields.as_slice())?;
+    Ok(())
 }
 
 // The time of a line, which is the moment where none is given.
@@ -172,8 +173,8 @@ fn moment_of(negative: bool, number: u64) -> Option<Time>
     Time::new(number as i64)
 }
 
-fn names_step(reserved: bool, fields: &[Field]) -> Result<(), Refusal>
-    ensures { Gives (λ _. true) result (unless (reserved || has_time_field fields.now) LineCode.ReservedName) }
+fn names_step(reserved: bool, fields: &[SpelledField<'_>]) -> Result<(), Refusal>
+    ensures { Gives (λ _. true) result (unless (reserved || has_time_field (fields_spelled fields.now)) LineCode.ReservedName) }
 {
     if reserved || has_time(fields) {
         return Err(Refusal::Code(LineCode::ReservedName));
@@ -181,27 +182,15 @@ fn names_step(reserved: bool, fields: &[Field]) -> Result<(), Refusal>
     Ok(())
 }
 
-fn has_time(fields: &[Field]) -> bool
-    ensures { result ≡ has_time_field fields.now }
+fn has_time(fields: &[SpelledField<'_>]) -> bool
+    ensures { result ≡ has_time_field (fields_spelled fields.now) }
 {
     for field in fields {
-        if is_time(&field.name) {
+        if field.is_time() {
             return true;
         }
     }
     false
-}
-
-fn keys_step(series: &SeriesKey, fields: &[Field]) -> Result<(), Refusal>
-    ensures { Gives (λ _. true) result (spec.keys_step series.now fields.now) }
-{
-    for field in fields {
-        match key_step(series, &field.name) {
-            Ok(()) => {}
-            Err(refusal) => return Err(refusal),
-        }
-    }
-    Ok(())
 }
 
 fn key_step(series: &SeriesKey, field: &Name) -> Result<(), Refusal>
@@ -223,36 +212,62 @@ fn refusal_of(fault: KeyFault) -> Refusal
     }
 }
 
-// Adds a point for each field; the last one takes the key of the series.
+// Adds a point for each field, up to the first whose key has a fault. The last one takes the key of the series.
 fn add_points(
+    alloc: Global,
     series: SeriesKey,
-    mut fields: Vec<Field>,
+    fields: &[SpelledField<'_>],
     time: Time,
     points: &mut Vec<Point>,
-) -> Result<(), AllocError>
-    ensures { OnOk result (points.new.items ≡ points.old.items ++ points_of time series fields.items) }
+) -> Result<(), Refusal>
+    ensures { Gives (λ _. points.new.items) result (with_points points.old.items time series (fields_spelled fields.now)) }
 {
-    match fields.pop() {
+    match fields.split_last() {
         None => Ok(()),
-        Some(last) => {
-            carry_points(&series, fields, time, points)?;
-            push_point(series, last, time, points)
+        Some((last, others)) => {
+            match carry_points(alloc, &series, others, time, points) {
+                Err(refusal) => Err(refusal),
+                Ok(()) => add_point(alloc, series, last, time, points),
+            }
         }
     }
 }
 
 fn carry_points(
+    alloc: Global,
     series: &SeriesKey,
-    fields: Vec<Field>,
+    fields: &[SpelledField<'_>],
     time: Time,
     points: &mut Vec<Point>,
-) -> Result<(), AllocError>
-    ensures { OnOk result (points.new.items ≡ points.old.items ++ points_of time series.now fields.items) }
+) -> Result<(), Refusal>
+    ensures { Gives (λ _. points.new.items) result (with_points points.old.items time series.now (fields_spelled fields.now)) }
 {
     for field in fields {
-        push_point(series.carry()?, field, time, points)?;
+        match add_point(alloc, series.carry()?, field, time, points) {
+            Ok(()) => {}
+            Err(refusal) => return Err(refusal),
+        }
     }
     Ok(())
+}
+
+fn add_point(
+    alloc: Global,
+    series: SeriesKey,
+    field: &SpelledField<'_>,
+    time: Time,
+    points: &mut Vec<Point>,
+) -> Result<(), Refusal>
+    ensures { Gives (λ _. points.new.items) result (with_points points.old.items time series (field_spelled field.now ∷ [])) }
+{
+    let field = field.named(alloc)?;
+    match key_step(&series, &field.name) {
+        Err(refusal) => Err(refusal),
+        Ok(()) => {
+            push_point(series, field, time, points)?;
+            Ok(())
+        }
+    }
 }
 
 fn push_point(

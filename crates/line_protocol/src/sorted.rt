@@ -18,29 +18,29 @@ pub struct Part<'a> {
     pub text: &'a [u8],
 }
 
-// The tags behind the commas of a text, in ascending order of the keys that they spell.
-pub fn sorted_parts(alloc: Global, text: &[u8]) -> Result<Vec<Part<'_>>, AllocError>
+// Reads the tags behind the commas of a text into emptied room, in ascending order of the keys that they spell.
+pub fn sort_parts<'a>(parts: &mut Vec<Part<'a>>, text: &'a [u8]) -> Result<(), AllocError>
     requires start { StartsAscii text.now }
     requires one_line { IsOneLine text.now }
-    ensures same { IfOk result (λ parts. IsPermutation (parts_behind 44 text.now) (texts_of parts.items)) }
-    ensures cut { IfOk result (λ parts. AreCut parts.items) }
-    ensures sorted { IfOk result (λ parts. IsSorted part_cmp parts.items) }
-    ensures utf8 { IfOk result (λ parts. All (λ part. IsUtf8 part.text.now) parts.items) }
+    ensures same { OnOk result (IsPermutation (parts_behind 44 text.now) (texts_of parts.new.items)) }
+    ensures cut { OnOk result (AreCut parts.new.items) }
+    ensures sorted { OnOk result (IsSorted part_cmp parts.new.items) }
+    ensures utf8 { OnOk result (All (λ part. IsUtf8 part.text.now) parts.new.items) }
 {
-    let mut parts = parts_of(alloc, text)?;
-    sort(&mut parts);
-    Ok(parts)
+    read_parts(parts, text)?;
+    sort(parts);
+    Ok(())
 }
 
-// The tags behind the commas of a text, as they stand.
-fn parts_of(alloc: Global, text: &[u8]) -> Result<Vec<Part<'_>>, AllocError>
+// Reads the tags behind the commas of a text into emptied room, as they stand.
+fn read_parts<'a>(parts: &mut Vec<Part<'a>>, text: &'a [u8]) -> Result<(), AllocError>
     requires start { StartsAscii text.now }
     requires one_line { IsOneLine text.now }
-    ensures texts { IfOk result (λ parts. texts_of parts.items ≡ parts_behind 44 text.now) }
-    ensures cut { IfOk result (λ parts. AreCut parts.items) }
-    ensures utf8 { IfOk result (λ parts. All (λ part. IsUtf8 part.text.now) parts.items) }
+    ensures texts { OnOk result (texts_of parts.new.items ≡ parts_behind 44 text.now) }
+    ensures cut { OnOk result (AreCut parts.new.items) }
+    ensures utf8 { OnOk result (All (λ part. IsUtf8 part.text.now) parts.new.items) }
 {
-    let mut parts = Vec::new(alloc);
+    parts.clear();
     let mut left = text;
     'tags: while let Some((_comma, behind)) = left.split_first() {
         let (text, rest) = cut(behind, b',');
@@ -48,7 +48,7 @@ fn parts_of(alloc: Global, text: &[u8]) -> Result<Vec<Part<'_>>, AllocError>
         parts.push(Part { key, text })?;
         left = rest;
     }
-    Ok(parts)
+    Ok(())
 }
 
 fn sort(parts: &mut Vec<Part<'_>>)

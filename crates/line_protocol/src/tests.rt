@@ -320,9 +320,11 @@ fn repeated(
 #[test]
 fn the_longest_batches_and_one_past_them(rt: HostRuntime) {
     let longest = repeated(rt.alloc(), "m v=1i\n", "\n", 4999, "").expect(&rt, "a text");
-    let longer = repeated(rt.alloc(), "m v=1.5\n", "\n", 4999, " ").expect(&rt, "a text");
+    let longer = repeated(rt.alloc(), "m v=1i\n", "\n", 4999, " ").expect(&rt, "a text");
+    let faulty = repeated(rt.alloc(), "m v=1.5\n", "\n", 4999, " ").expect(&rt, "a text");
     assert!(&rt; read(&rt, rt.alloc(), longest.as_str()).is_ok());
     assert!(&rt; is_refused(rt.alloc(), &rt, longer.as_str(), LineCode::BatchTooLong, 0));
+    assert!(&rt; is_refused(rt.alloc(), &rt, faulty.as_str(), LineCode::BatchTooLong, 0));
     let sixteen = "m v=1i\n# 0123456";
     let longest = repeated(rt.alloc(), sixteen, "0123456789abcdef", 1048575, "").expect(
         &rt, "a text",

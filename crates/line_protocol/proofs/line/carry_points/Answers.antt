@@ -1,35 +1,44 @@
-use Rattle.std.proofs.Common.{◌≡◌, ℕ, List, [], ◌∷◌, ◌++◌, length, sym, ap, ◌∙◌, append_assoc, append-nil, arith}
-use Rattle.std.proofs.lemmas.List.{nil_from_length}
-use Rattle.std.specs.Vec.Iter.{into_iter_items}
+use Rattle.std.proofs.Common.{ℕ, List, [], ◌∷◌, ◌+◌, Result, drop, sym, ap, ◌∙◌, arith}
+use Rattle.std.proofs.lemmas.List.{drop_all}
 use Rattle.tsdb_types.specs.declared.point.Point.{Point}
-use Rattle.line_protocol.specs.declared.field.Field.{Field}
-use Rattle.line_protocol.specs.Lines.{points_of}
+use Rattle.line_protocol.specs.declared.fault.LineCode.{LineCode}
+use Rattle.line_protocol.specs.declared.spelled_field.SpelledField.{SpelledField}
+use Rattle.line_protocol.specs.Fields.{field_spelled, fields_spelled}
+use Rattle.line_protocol.specs.Lines.{with_points}
+use Rattle.line_protocol.specs.Readings.{◌>>=◌}
+use Rattle.line_protocol.proofs.LineLemmas.{points-at, points-first, points-none}
+use Rattle.line_protocol.proofs.ReadingLemmas.{refuses-along, refuses-bind}
 use Rattle.line_protocol.proofs.line.carry_points.Goals as goal
 
 pub loop-field-preserved : goal.loop-field-preserved
 loop-field-preserved c =
     let at = c.loop-field in
-    let time = c.args.time in
+    let i = at.field-index in
     let series = c.args.series.now in
-    let left = into_iter_items c.next.new.self in
-    let steps : into_iter_items at.field-iterator ≡ c.in-Some.field ∷ left = c.in-Some.ensures.steps.0 in
-    let more : List Point = points_of time series left in
-    record {
-      whole = ap (λ (ps : List Point). ps ++ more) c.in_ok-push_point.ensures
-          ∙ ap (λ (key : List ℕ). (at.points.items ++ points_of time key (c.in-Some.field ∷ [])) ++ more) c.in_ok-carry.ensures
-          ∙ append_assoc at.points.items (points_of time series (c.in-Some.field ∷ [])) more
-          ∙ ap (λ (fs : List Field). at.points.items ++ points_of time series fs) (sym steps)
-          ∙ at.invariant.whole;
-      len = let was = at.invariant.len in let gone = c.in-Some.ensures.steps.1 in let short = ap length steps in omega arith;
-    }
+    let fields = c.args.fields.now in
+    let item = field_spelled c.field-item.result in
+    let rest = fields_spelled (drop (i + 1) fields) in
+    let step = points-at at.points.items c.args.time series fields i c.field-item.result c.loop-field-test.true c.field-item.is in
+    let one = ap (λ (key : List ℕ). with_points at.points.items c.args.time key (item ∷ [])) (sym c.in_ok-carry.ensures) ∙ c.in-Ok.ensures in
+    sym (step ∙ points-first at.points.items c.args.time series item rest ∙ ap (λ (r : Result (List Point) LineCode). r >>= λ more. with_points more c.args.time series rest) one) ∙ at.invariant
+
+pub returns-in-Err : goal.returns-in-Err
+returns-in-Err c =
+    let at = c.loop-field in
+    let i = at.field-index in
+    let series = c.args.series.now in
+    let fields = c.args.fields.now in
+    let item = field_spelled c.field-item.result in
+    let rest = fields_spelled (drop (i + 1) fields) in
+    let step = points-at at.points.items c.args.time series fields i c.field-item.result c.loop-field-test.true c.field-item.is in
+    refuses-along c.in-Err.refusal _ _ (sym (step ∙ points-first at.points.items c.args.time series item rest) ∙ at.invariant)
+    (refuses-bind c.in-Err.refusal (with_points at.points.items c.args.time series (item ∷ [])) (λ more. with_points more c.args.time series rest)
+    (refuses-along c.in-Err.refusal _ _ (ap (λ (key : List ℕ). with_points at.points.items c.args.time key (item ∷ [])) c.in_ok-carry.ensures) c.in-Err.ensures))
 
 pub returns : goal.returns
 returns c =
     let at = c.loop-field in
-    let time = c.args.time in
     let series = c.args.series.now in
-    let empty : into_iter_items at.field-iterator ≡ [] = nil_from_length _ (sym at.invariant.len ∙ c.in-None.ensures.steps.0) in
-    sym (append-nil at.points.items)
-    ∙ ap (λ (fs : List Field). at.points.items ++ points_of time series fs) (sym empty)
-    ∙ at.invariant.whole
-    ∙ ap (λ (fs : List Field). c.args.points.now.items ++ points_of time series fs) c.into_iter-field-iterator.ensures.into_iter_gives.0
+    sym at.invariant
+    ∙ ap (λ (fs : List SpelledField). with_points at.points.items c.args.time series (fields_spelled fs)) (drop_all at.field-index c.args.fields.now (omega arith))
+    ∙ points-none at.points.items c.args.time series

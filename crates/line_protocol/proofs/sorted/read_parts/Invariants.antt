@@ -4,7 +4,7 @@ use Rattle.std.specs.Str.{IsUtf8}
 use Rattle.line_protocol.specs.Parts.{parts_behind}
 use Rattle.line_protocol.specs.Sorted.{texts_of, AreCut}
 use Rattle.line_protocol.specs.Texts.{IsOneLine, StartsAscii}
-use Rattle.line_protocol.proofs.sorted.parts_of.Given as goal
+use Rattle.line_protocol.proofs.sorted.read_parts.Given as goal
 
 abbrev pub invariant-tags : goal.invariant-tags
 invariant-tags l = record {

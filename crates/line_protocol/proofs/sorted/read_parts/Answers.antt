@@ -10,7 +10,7 @@ use Rattle.line_protocol.specs.Sorted.{texts_of}
 use Rattle.line_protocol.specs.Texts.{IsOneLine, StartsAscii}
 use Rattle.line_protocol.proofs.PartLemmas.{parts-step, rest-le}
 use Rattle.line_protocol.proofs.TextLemmas.{behind-line, parts-line, rest-starts}
-use Rattle.line_protocol.proofs.sorted.parts_of.Goals as goal
+use Rattle.line_protocol.proofs.sorted.read_parts.Goals as goal
 
 pub tags-smaller : goal.tags-smaller
 tags-smaller c = omega (arith, ap (λ (t : List ℕ). length t) c.cut.ensures.rest, rest-le 44 false c.in-Some.behind.now, c.in-Some.ensures.cases.1)
