@@ -1,7 +1,8 @@
 -- Histories, one behind the other.
 use Rattle.std.proofs.Common.{◌≡◌, ◌++◌, ◌+◌, ℕ, List, [], ◌∷◌, refl, arith, length-append}
 use Rattle.point_model.specs.Points.{Points}
-use Rattle.point_model.specs.Histories.{Entry, State, after, after_entry, state_after}
+use Rattle.point_model.specs.declared.entry.Entry.{Entry}
+use Rattle.point_model.specs.Histories.{State, after, after_entry, state_after}
 
 pub after-append : (points : Points) (first second : List Entry) → after points (first ++ second) ≡ after (after points first) second
 after-append points [] second = refl

@@ -1,1 +1,4 @@
 pub mod HistoryLemmas
+pub mod JoinLemmas
+pub mod PointLemmas
+pub mod TagLemmas

@@ -13,9 +13,8 @@ use Rattle.tsdb_types.specs.declared.tag.Tag.{Tag}
 use Rattle.tsdb_types.specs.declared.value.Value.{Value}
 use Rattle.tsdb_types.specs.declared.value.Kind.{Kind}
 use Rattle.point_model.specs.declared.need.Need.{Need}
-use Rattle.point_model.specs.declared.need.TagCond.{TagCond}
-use Rattle.point_model.specs.declared.need.TagCond.TheVariants as condition
 use Rattle.point_model.specs.declared.names.Names.{Names}
+use Rattle.point_model.specs.Conditions.{meets}
 use Rattle.point_model.specs.Points.{Points, value_at}
 use Rattle.point_model.specs.Rows.{Row, is_of}
 
@@ -29,10 +28,6 @@ key_cmp a b = ordering_then (slice_cmp nat_cmp a.0 b.0) (slice_cmp nat_cmp a.1 b
 
 abbrev pub cell_at : Key → ℤ → Cell
 cell_at key time = record { time = time; series = key.0; field = key.1 }
-
--- the tags of the series meet the condition
-abbrev pub meets : TagCond → List ℕ → Bool
-meets condition.True series = true
 
 -- the series is of the measurement, and has a tag with this key
 abbrev pub HasTagKey : List ℕ → List ℕ → List ℕ → Type 0

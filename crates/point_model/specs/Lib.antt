@@ -1,8 +1,12 @@
 pub mod Acceptance
+pub mod Conditions
 pub mod Cursors
+pub mod Deletions
 pub mod Histories
+pub mod Joins
 pub mod Laws
 pub mod Measurements
 pub mod Points
 pub mod Rows
+pub mod Tags
 pub mod Troubles

@@ -1,5 +1,5 @@
 -- What the points of a database are: a finite map from cells to values.
-use Rattle.std.specs.Prelude.{List, [], Option}
+use Rattle.std.specs.Prelude.{Bool, List, [], Option}
 use Rattle.std.specs.declared.cmp.Ordering.{Ordering}
 use Rattle.std.specs.Ordering.{nat_cmp, int_cmp, ordering_then}
 use Rattle.std.specs.Cmp.Lexicographic.{slice_cmp}
@@ -27,3 +27,7 @@ with_point points point = insert_entry cell_cmp points point.cell point.value
 -- the value at a cell
 abbrev pub value_at : Points → Cell → Option Value
 value_at points cell = lookup (is_at (cell_cmp cell)) points
+
+-- the cells are one
+abbrev pub is_same_cell : Cell → Cell → Bool
+is_same_cell cell = is_at (cell_cmp cell)

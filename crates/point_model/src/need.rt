@@ -1,11 +1,5 @@
+use crate::TagCond;
 use tsdb_types::{Name, Time};
-
-/// A condition on the tags of a series.
-#[derive(Clone, Copy, Debug, PartialEq, Eq)]
-pub enum TagCond {
-    /// Each series meets it.
-    True,
-}
 
 /// What a query asks of the points.
 #[derive(Debug, Drop)]

@@ -5,7 +5,8 @@ use Rattle.std.proofs.lemmas.List.{append-nil}
 use Rattle.std.proofs.lemmas.List.Sorted.{IsPermutation-refl}
 use Rattle.shard_disk.specs.Health.{Health, last_count}
 use Rattle.tsdb_types.specs.declared.point.Point.{Point}
-use Rattle.point_model.specs.Histories.{Entry, State, nothing}
+use Rattle.point_model.specs.declared.entry.Entry.{Entry}
+use Rattle.point_model.specs.Histories.{State, nothing}
 use Rattle.std.specs.declared.snapshot.Snapshot.{Snapshot}
 use Rattle.store_trait.specs.Told.{Told, Limits, Keeps}
 use Rattle.store_trait.specs.Plain.{told_of, entries_of, numbers_from as plain_numbers}

@@ -1,5 +1,5 @@
 -- The rows of the keys of a field, in order, are the field's rows.
-use Rattle.std.proofs.Common.{◌≡◌, ℕ, ℤ, ◌+◌, ◌<◌, zero, suc, Bool, true, false, ◌&&◌, T, pos, negsuc, List, [], ◌∷◌, ◌++◌, map, Some, IsSome, refl, sym, ap, subst, ◌∙◌, arith, inl, inr, ◌⊎◌, Ordering, Less, Equal, Greater, All, Contains, slice_index_or, int_le, nat_eq, if◌then◌else◌}
+use Rattle.std.proofs.Common.{rules, ◌≡◌, ℕ, ℤ, ◌+◌, ◌<◌, zero, suc, Bool, true, false, ◌&&◌, T, pos, negsuc, List, [], ◌∷◌, ◌++◌, map, Some, IsSome, refl, sym, ap, subst, ◌∙◌, arith, inl, inr, ◌⊎◌, Ordering, Less, Equal, Greater, All, Contains, slice_index_or, int_le, nat_eq, if◌then◌else◌}
 use Rattle.std.specs.Ordering.{nat_cmp, int_cmp, ordering_then, ordering_reverse, eq_by_cmp, is_lt, is_eq}
 use Rattle.std.specs.Cmp.{IsTotalOrder, then_total, on_total, int_cmp_total, eq_by_cmp_equiv, nat_cmp_is}
 use Rattle.std.specs.Cmp.Lexicographic.{pointwise, slice_cmp, nat_list_cmp_total, same_text}
@@ -19,9 +19,10 @@ use Rattle.point_model.specs.Points.{Points, cell_cmp, value_at}
 use Rattle.point_model.specs.Rows.{Row, is_of, rows_of}
 use Rattle.tsdb_types.specs.Moments.{IsMoment}
 use Rattle.point_model.specs.declared.need.Need.{Need}
-use Rattle.point_model.specs.declared.need.TagCond.{TagCond}
-use Rattle.point_model.specs.declared.need.TagCond.TheVariants as condition
-use Rattle.point_model.specs.Cursors.{Key, key_cmp, meets, in_order, rows_between, rows_needed, Shown, Gives}
+use Rattle.point_model.specs.declared.condition.TagCond.{TagCond, the_lemmas}
+use Rattle.point_model.specs.declared.condition.TagCond.TheVariants as condition
+use Rattle.point_model.specs.Conditions.{meets}
+use Rattle.point_model.specs.Cursors.{Key, key_cmp, in_order, rows_between, rows_needed, Shown, Gives}
 use Rattle.session_loop.specs.declared.select.Found.{Found}
 use Rattle.session_loop.specs.Merged.{at_place, rows_at, rows_from, found_cmp, row_found, AreInOrder, AsksAll}
 
@@ -407,8 +408,11 @@ cell_total = then_total (then_total (on_total (λ (c : Cell). c.time) int_cmp_to
 at_itself : (cell : Cell) → is_at (cell_cmp cell) cell ≡ true
 at_itself cell = ap is_eq (tied_itself cell_total cell)
 
-meets_all : (tags : TagCond) (series : List ℕ) → meets tags series ≡ true
-meets_all condition.True series = refl
+always_met : (series : List ℕ) → meets condition.True series ≡ true
+always_met series = search (rules, the_lemmas)
+
+meets_all : (need : Need) (series : List ℕ) → AsksAll need → meets need.tags series ≡ true
+meets_all need series all = ap (λ (tags : TagCond). meets tags series) all.tags ∙ always_met series
 
 inside_all : (need : Need) (time : ℤ) → AsksAll need → IsMoment time → (int_le need.from time && int_le time need.to) ≡ true
 inside_all need time all moment =
@@ -432,7 +436,7 @@ view_rows points need shown field left order cells timed gives all tells same so
         p.0.time,
         held_at p.0 points p m (at_itself p.0),
         and_both (is_series_of need.measurement p.0.series) (meets need.tags p.0.series)
-            (and_first (is_series_of need.measurement p.0.series) (pointwise nat_eq p.0.field field) of) (meets_all need.tags p.0.series),
+            (and_first (is_series_of need.measurement p.0.series) (pointwise nat_eq p.0.field field) of) (meets_all need p.0.series all),
       ));
       inside = inside_all need p.0.time all (moment_of p m);
     }) in

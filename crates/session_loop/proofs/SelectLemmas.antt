@@ -13,7 +13,8 @@ use Rattle.shard_disk.proofs.HealthLemmas.{fresh_none}
 use Rattle.point_model.specs.declared.need.Need.{Need}
 use Rattle.point_model.specs.declared.fault.CursorFault.{CursorFault}
 use Rattle.point_model.specs.declared.fault.CursorFault.TheVariants as cursor_fault
-use Rattle.point_model.specs.Histories.{Entry, State}
+use Rattle.point_model.specs.declared.entry.Entry.{Entry}
+use Rattle.point_model.specs.Histories.{State}
 use Rattle.point_model.specs.Points.{cell_cmp}
 use Rattle.point_model.specs.Rows.{Row, rows_of}
 use Rattle.std.specs.List.Sorted.{IsStrictlySortedBy}

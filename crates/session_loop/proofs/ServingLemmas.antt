@@ -9,7 +9,7 @@ use Rattle.tsdb_types.specs.declared.point.Point.{Point}
 use Rattle.tsdb_types.specs.declared.value.Kind.{Kind}
 use Rattle.std.specs.declared.alloc.AllocError.{AllocError}
 use Rattle.point_model.specs.Histories.{State}
-use Rattle.point_model.specs.Histories.Entry.{Write as Write_entry}
+use Rattle.point_model.specs.declared.entry.Entry.TheVariants.{Write as Write_entry}
 use Rattle.point_model.specs.Acceptance.{Conflict, conflict}
 use Rattle.store_trait.specs.Told.{Told, Keeps, IsAlike, state_now}
 use Rattle.store_trait.specs.Calls.Write.{WriteHasCause}

@@ -9,8 +9,9 @@ use Rattle.std.proofs.Math.Seq.{take-append_seam}
 use Rattle.shard_disk.specs.Health.{Health, Ages, Rose, last_count}
 use Rattle.shard_disk.proofs.HealthLemmas.{ages_still, ages_then}
 use Rattle.tsdb_types.specs.declared.point.Point.{Point}
-use Rattle.point_model.specs.Histories.{Entry, State, state_after}
-use Rattle.point_model.specs.Histories.Entry.{Write as Write_entry}
+use Rattle.point_model.specs.declared.entry.Entry.{Entry}
+use Rattle.point_model.specs.Histories.{State, state_after}
+use Rattle.point_model.specs.declared.entry.Entry.TheVariants.{Write as Write_entry}
 use Rattle.point_model.specs.Acceptance.{Conflict, conflict}
 use Rattle.store_trait.specs.Told.{Told, Limits, Keeps, IsAlike, IsLater, state_now}
 use Rattle.store_trait.specs.Calls.Write.{Accepts, PassesCache, PassesSeries}

@@ -1,6 +1,7 @@
 -- What does a whole session owe its client?
 use Rattle.std.specs.Prelude.{◌≡◌, ℕ, ◌+◌, ◌≤◌, min, ℤ, Bool, true, false, IsTrue, List, [], ◌∷◌, ◌++◌, length, Option, IfSome, IsErrOf, Result, if◌then◌else◌}
-use Rattle.point_model.specs.Histories.{Entry, nothing}
+use Rattle.point_model.specs.declared.entry.Entry.{Entry}
+use Rattle.point_model.specs.Histories.{nothing}
 use Rattle.shard_disk.specs.Health.{Health, Ages, Failed, last_count}
 use Rattle.shard_disk.specs.declared.trouble.Trouble.{Trouble}
 use Rattle.shard_disk.specs.declared.trouble.Trouble.TheVariants as trouble

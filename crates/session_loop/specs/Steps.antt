@@ -3,7 +3,7 @@ use Rattle.std.specs.Prelude.{◌≡◌, ℕ, ◌+◌, ◌≤◌, ℤ, false, Is
 use Rattle.std.specs.declared.alloc.AllocError.{AllocError}
 use Rattle.tsdb_types.specs.declared.point.Point.{Point}
 use Rattle.shard_disk.specs.Health.{Health, Ages, Rose}
-use Rattle.point_model.specs.Histories.{Entry}
+use Rattle.point_model.specs.declared.entry.Entry.{Entry}
 use Rattle.store_trait.specs.Told.{Told, Keeps}
 use Rattle.store_trait.specs.Calls.Write.{PassesCache, PassesSeries}
 use Rattle.session_model.specs.declared.statement.Statement.{Statement}

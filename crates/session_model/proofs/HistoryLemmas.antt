@@ -7,8 +7,9 @@ use Rattle.std.proofs.lemmas.List.Sorted.{IsPermutation-refl}
 use Rattle.tsdb_types.specs.declared.point.Point.{Point}
 use Rattle.point_model.specs.Points.{Points}
 use Rattle.point_model.specs.Acceptance.{Conflict, conflict}
-use Rattle.point_model.specs.Histories.{Entry, State, state_after}
-use Rattle.point_model.specs.Histories.Entry.{Write as Write_entry}
+use Rattle.point_model.specs.declared.entry.Entry.{Entry}
+use Rattle.point_model.specs.Histories.{State, state_after}
+use Rattle.point_model.specs.declared.entry.Entry.TheVariants.{Write as Write_entry}
 use Rattle.point_model.proofs.HistoryLemmas.{state_after-append, state_after-nil}
 use Rattle.session_model.specs.declared.statement.Statement.{Statement}
 use Rattle.session_model.specs.declared.statement.Statement.TheVariants as statement

@@ -9,8 +9,9 @@ use Rattle.session_io.specs.declared.report.End.TheVariants.{Read, SourceFault, 
 use Rattle.tsdb_types.specs.declared.point.Point.{Point}
 use Rattle.point_model.specs.Points.{Points}
 use Rattle.point_model.specs.Acceptance.{Conflict, conflict}
-use Rattle.point_model.specs.Histories.{Entry, State}
-use Rattle.point_model.specs.Histories.Entry.{Write as Write_entry}
+use Rattle.point_model.specs.declared.entry.Entry.{Entry}
+use Rattle.point_model.specs.Histories.{State}
+use Rattle.point_model.specs.declared.entry.Entry.TheVariants.{Write as Write_entry}
 use Rattle.session_model.specs.declared.statement.Statement.{Statement}
 use Rattle.session_model.specs.declared.statement.Statement.TheVariants as statement
 use Rattle.session_model.specs.Lines.{Request}

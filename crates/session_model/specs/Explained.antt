@@ -5,7 +5,8 @@ use Rattle.std.specs.Option.{option_to_list}
 use Rattle.session_io.specs.declared.report.Report.{Report}
 use Rattle.session_io.specs.declared.report.End.{End}
 use Rattle.session_io.specs.declared.report.End.TheVariants.{Read, SourceFault, SinkFault, Memory}
-use Rattle.point_model.specs.Histories.{Entry, State, state_after}
+use Rattle.point_model.specs.declared.entry.Entry.{Entry}
+use Rattle.point_model.specs.Histories.{State, state_after}
 use Rattle.session_model.specs.Lines.{Request, requests, ended_requests}
 use Rattle.session_model.specs.Machine.{Answer, Serves, IsAside, IsOutOfMemory}
 use Rattle.session_model.specs.Replies.{text, accepted}

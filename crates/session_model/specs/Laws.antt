@@ -1,7 +1,8 @@
 -- Which laws do sessions keep?
 use Rattle.std.specs.Prelude.{◌≡◌, ℕ, ◌-◌, ◌^◌, ◌<◌, ℤ, List, [], ◌∷◌, map, All}
 use Rattle.std.specs.List.{flat_map}
-use Rattle.point_model.specs.Histories.{Entry, State, state_after}
+use Rattle.point_model.specs.declared.entry.Entry.{Entry}
+use Rattle.point_model.specs.Histories.{State, state_after}
 use Rattle.session_model.specs.declared.statement.Statement.{Statement}
 use Rattle.session_model.specs.Lines.{Request}
 use Rattle.session_model.specs.Requests.{Means}

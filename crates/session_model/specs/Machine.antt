@@ -2,8 +2,9 @@
 use Rattle.std.specs.Prelude.{◌≡◌, ◌⊎◌, ℕ, ◌+◌, ℤ, nat_lt, nat_le, List, [], ◌∷◌, map, Option, Some, None, if◌then◌else◌}
 use Rattle.tsdb_types.specs.declared.point.Point.{Point}
 use Rattle.point_model.specs.Points.{Points}
-use Rattle.point_model.specs.Histories.{Entry, State, after_entry}
-use Rattle.point_model.specs.Histories.Entry.{Write as Write_entry}
+use Rattle.point_model.specs.declared.entry.Entry.{Entry}
+use Rattle.point_model.specs.Histories.{State, after_entry}
+use Rattle.point_model.specs.declared.entry.Entry.TheVariants.{Write as Write_entry}
 use Rattle.point_model.specs.Acceptance.{Conflict, conflict}
 use Rattle.point_model.specs.Rows.{Row, rows_of}
 use Rattle.session_model.specs.declared.statement.Statement.{Statement}

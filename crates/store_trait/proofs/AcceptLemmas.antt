@@ -5,15 +5,17 @@ use Rattle.std.specs.declared.snapshot.Snapshot.{Snapshot}
 use Rattle.tsdb_types.specs.Moments.{IsMoment}
 use Rattle.tsdb_types.specs.declared.point.Point.{Point}
 use Rattle.point_model.specs.Acceptance.{conflict, IsWritable, IsAccepted}
-use Rattle.point_model.specs.Histories.{Entry, after, with_points}
-use Rattle.point_model.specs.Histories.Entry.{Write}
+use Rattle.point_model.specs.declared.entry.Entry.{Entry}
+use Rattle.point_model.specs.Histories.{after, with_points}
+use Rattle.point_model.specs.declared.entry.Entry.TheVariants.{Write}
 use Rattle.point_model.specs.Points.{Points, no_points, cell_cmp}
 use Rattle.point_model.proofs.HistoryLemmas.{after-append}
 use Rattle.store_trait.specs.Slots.{Slots, Samples}
 use Rattle.store_trait.specs.Told.{Told, Keeps, state_now, last_number}
 use Rattle.store_trait.specs.Calls.Write.{Accepts}
 use Rattle.store_trait.specs.Plain.{Fits, Agrees, Holds, IsIn, IsSampled, entries_of, numbers_from, told_of}
-use Rattle.store_trait.proofs.CommitLemmas.{committed, sorted-after}
+use Rattle.point_model.proofs.PointLemmas.{sorted-after}
+use Rattle.store_trait.proofs.CommitLemmas.{committed}
 
 pub entries-last : (client : ℕ) (batches : List (Snapshot (List Point))) (batch : Snapshot (List Point)) → entries_of client (batches ++ batch ∷ []) ≡ entries_of client batches ++ Write client batch.value ∷ []
 entries-last client [] batch = refl

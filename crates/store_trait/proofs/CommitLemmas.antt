@@ -15,23 +15,15 @@ use Rattle.tsdb_types.specs.declared.value.Kind.{Kind}
 use Rattle.point_model.specs.Acceptance.{Conflict, conflict, conflict_before, other_kind, IsWritable}
 use Rattle.point_model.specs.Measurements.{measurement_head, is_same_field}
 use Rattle.point_model.specs.Points.{Points, cell_cmp, value_at, with_point}
-use Rattle.point_model.specs.Histories.{Entry, with_points, after}
-use Rattle.point_model.specs.Histories.Entry.{Write}
+use Rattle.point_model.specs.declared.entry.Entry.{Entry}
+use Rattle.point_model.specs.Histories.{with_points, after}
+use Rattle.point_model.specs.declared.entry.Entry.TheVariants.{Write}
 use Rattle.store_trait.specs.Slots.{Slots, Samples, slot_at, sample_of, held, Stays}
 use Rattle.store_trait.specs.Plain.{Fits, Agrees, sample_value, Resamples, IsSampled, IsIn}
 use Rattle.store_trait.proofs.ConflictLemmas.{found_among, none_other, none_some, some_values}
 use Rattle.store_trait.proofs.KindLemmas.{same_field-sym, kind_same}
-use Rattle.store_trait.proofs.PointLemmas.{cell_total, cell_exact, value_at-with_point, sorted-with_point}
+use Rattle.point_model.proofs.PointLemmas.{cell_total, cell_exact, value_at-with_point, sorted-with_point}
 use Rattle.store_trait.proofs.SampleLemmas.{some_same}
-
--- points in order stay so
-pub sorted-with_points : (points : Points) (batch : List Point) → T (is_sorted cell_cmp points) → T (is_sorted cell_cmp (with_points points batch))
-sorted-with_points points [] s = s
-sorted-with_points points (point ∷ batch) s = sorted-with_points (with_point points point) batch (sorted-with_point points point s)
-
-pub sorted-after : (points : Points) (history : List Entry) → T (is_sorted cell_cmp points) → T (is_sorted cell_cmp (after points history))
-sorted-after points [] s = s
-sorted-after points (Write client batch ∷ history) s = sorted-after (with_points points batch) history (sorted-with_points points batch s)
 
 -- a value behind a batch was there, or is one of the batch
 pub from_where : (points : Points) (batch : List Point) (c : Cell) (v : Value) → value_at (with_points points batch) c ≡ Some v

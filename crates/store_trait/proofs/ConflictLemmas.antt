@@ -17,7 +17,7 @@ use Rattle.point_model.specs.Points.{Points, cell_cmp, value_at}
 use Rattle.store_trait.specs.Slots.{Slots, Samples, slot_at, sample_of, held}
 use Rattle.store_trait.specs.Plain.{Fits, sample_value, unlike, conflict_in}
 use Rattle.store_trait.proofs.KindLemmas.{and_first, and_both, one_field, same_field}
-use Rattle.store_trait.proofs.PointLemmas.{cell_total, cell_exact, find_is}
+use Rattle.point_model.proofs.PointLemmas.{cell_total, cell_exact, find_is}
 
 -- the pair is one of these
 abbrev pub Among : Cell × Value → Points → Type 0

@@ -9,19 +9,20 @@ use Rattle.std.specs.Map.{keys_of}
 use Rattle.std.specs.Ordering.{int_cmp, nat_cmp, ordering_then, is_eq}
 use Rattle.std.proofs.lemmas.Bool.{false≢true}
 use Rattle.std.proofs.lemmas.Map.Lookups.{exact_bytes, exact_signed}
-use Rattle.tsdb_types.specs.Series.{is_series_of}
+use Rattle.tsdb_types.specs.Series.{is_series_of, IsSeriesText}
 use Rattle.tsdb_types.specs.declared.value.Value.{Value}
 use Rattle.point_model.specs.declared.need.Need.{Need}
-use Rattle.point_model.specs.Cursors.{Key, key_cmp, cell_at, meets, in_order, rows_between, rows_needed, AreKeys}
+use Rattle.point_model.specs.Conditions.{meets}
+use Rattle.point_model.specs.Cursors.{Key, key_cmp, cell_at, in_order, rows_between, rows_needed, AreKeys}
 use Rattle.point_model.specs.Points.{Points, cell_cmp, value_at}
 use Rattle.point_model.specs.Rows.{Row}
-use Rattle.store_trait.specs.Gathered.{has_value, rows_set, rows_taken, fields_listed, listed, AreOrdered, AreOrderedRows}
+use Rattle.store_trait.specs.Gathered.{has_value, rows_set, rows_taken, fields_listed, listed, AreOrdered, AreOrderedRows, AreSeriesTexts}
 use Rattle.store_trait.specs.Plain.{Agrees}
 use Rattle.store_trait.specs.Slots.{Rows, Fields, Slots, slot_of, slot_in, slot_at, held, text_cmp}
 use Rattle.store_trait.proofs.ConflictLemmas.{none_some}
 use Rattle.store_trait.proofs.InLemmas.{In, in_contains, contains_in, in_left, in_right, in_either, in_keys, keys_in, found_in, in_found, sorted_nil, sorted_cons, sorted_first, sorted_rest, sorted_append}
 use Rattle.store_trait.proofs.KindLemmas.{text_itself}
-use Rattle.store_trait.proofs.PointLemmas.{find_is}
+use Rattle.point_model.proofs.PointLemmas.{find_is}
 use Rattle.store_trait.proofs.RowLemmas.{sorted_test, sorted_rows, find_row, sorted_between, find_between}
 
 tied : (t : List ℕ) → slice_cmp nat_cmp t t ≡ Equal
@@ -257,3 +258,18 @@ module _ (need : Need) (slots : Slots) (points : Points) (agrees : Agrees slots 
   all_rows_are (e ∷ es) part =
       ap (λ (rs : List Row). rs ∷ map (λ (f : Key × Rows). rows_taken need f.1) es) (rows_are e.0 e.1 (part e.0 e.1 (inl refl)))
       ∙ ap (λ (rss : List (List Row)). rows_needed need points e.0 ∷ rss) (all_rows_are es (λ key rows m. part key rows (inr m)))
+
+-- the series of a listed key is the text of a series
+pub listed_texts : (need : Need) (entries : List (List ℕ × Fields)) → AreSeriesTexts need entries → (series field : List ℕ) → In (series, field) (keys_of (listed need entries)) → IsSeriesText series
+listed_texts need entries texts series field m =
+    let r = in_keys (series, field) (listed need entries) m in
+    let l = listed_key need entries (series, field) r.0 r.1 in
+    series_texts entries texts series l.0 l.1 l.2
+  where
+    series_texts : (es : List (List ℕ × Fields)) → AreSeriesTexts need es → (s : List ℕ) (fields : Fields) → In (s, fields) es → needed need s ≡ true → IsSeriesText s
+    series_texts [] t s fields n is = absurd n
+    series_texts (e ∷ es) t s fields n is =
+        ⊎_elim
+        (λ (same : e ≡ (s, fields)). subst (λ (p : List ℕ × Fields). IsSeriesText p.0) same (t.0 (ap (λ (p : List ℕ × Fields). needed need p.0) same ∙ is)))
+        (λ (later : In (s, fields) es). series_texts es t.1 s fields later is)
+        n

@@ -8,7 +8,6 @@ mod KeyListLemmas
 mod KindLemmas
 mod ListLemmas
 mod MapLemmas
-mod PointLemmas
 mod ResultLemmas
 mod RowLemmas
 mod SampleLemmas

@@ -17,7 +17,7 @@ use Rattle.point_model.specs.Cursors.{Key, cell_at, is_wanted, rows_between}
 use Rattle.point_model.specs.Points.{Points, cell_cmp, value_at}
 use Rattle.store_trait.specs.Gathered.{row_before, rows_set}
 use Rattle.store_trait.specs.Slots.{held}
-use Rattle.store_trait.proofs.PointLemmas.{cell_total, cell_exact}
+use Rattle.point_model.proofs.PointLemmas.{cell_total, cell_exact}
 use Rattle.store_trait.proofs.InLemmas.{In, sorted_first, sorted_rest}
 use Rattle.store_trait.proofs.KindLemmas.{and_first, and_second, and_both, text_same, text_itself}
 

@@ -9,7 +9,7 @@ use Rattle.point_model.specs.Points.{Points, cell_cmp, value_at, with_point}
 use Rattle.point_model.specs.Histories.{with_points}
 use Rattle.store_trait.specs.Slots.{Slots, slot_at, held}
 use Rattle.store_trait.specs.Plain.{Agrees}
-use Rattle.store_trait.proofs.PointLemmas.{value_at-with_point}
+use Rattle.point_model.proofs.PointLemmas.{value_at-with_point}
 
 pub stays_there : (old new : Slots) (point : Point)
     → ((q : Cell) → slot_at new q ≡ cond (is_at (cell_cmp point.cell) q) (Some (Some point.value)) (slot_at old q))

@@ -1,191 +1,19 @@
 -- The keys that are cut out of the text of a series are those of its tags.
-use Rattle.std.proofs.Common.{◌≡◌, ◌≢◌, ℕ, zero, suc, ◌-◌, ◌<◌, ◌≤◌, Bool, true, false, cond, not, ◌&&◌, eqb, ◌⊎◌, inl, inr, ⊎_elim, Option, Some, None, List, [], ◌∷◌, ◌++◌, length, get_or, map, refl, sym, ap, subst, ◌∙◌, arith}
-use Rattle.std.proofs.lemmas.Bool.{false≢true, eqb-true}
-use Rattle.std.proofs.lemmas.List.{append-nil, append_assoc}
-use Rattle.std.specs.List.{onto_first, slice_get, All, Any, Contains}
+use Rattle.std.proofs.Common.{rules, append_assoc, ◌≡◌, ℕ, zero, suc, ◌<◌, ◌⊎◌, inl, inr, ⊎_elim, Bool, true, false, ◌&&◌, Option, Some, None, List, [], ◌∷◌, ◌++◌, length, get_or, map, refl, sym, ap, subst, ◌∙◌, arith}
+use Rattle.std.specs.List.{slice_get, Any, Contains}
+use Rattle.std.specs.Map.{keys_of}
 use Rattle.tsdb_types.specs.Names.{IsName}
-use Rattle.tsdb_types.specs.Series.{escaped, measurement_ends_at, tag_ends_at, tags_text, series_text, IsSeriesText}
+use Rattle.tsdb_types.specs.Series.{measurement_ends_at, tags_text, series_text, is_series_of, IsSeriesText}
 use Rattle.tsdb_types.specs.declared.tag.Tag.{Tag}
-use Rattle.store_trait.specs.Tags.{IsTagKeyOf, front, rest, parts, parts_behind, begins_with, unescaped, tag_key, keys_in, keys_within}
-
-decided : (b : Bool) → (b ≡ true) ⊎ (b ≡ false)
-decided true = inl refl
-decided false = inr refl
-
--- whether a backslash stands right before what follows the text
-abbrev slashed : Bool → List ℕ → Bool
-slashed slash [] = slash
-slashed slash (byte ∷ text) = slashed (eqb byte 92) text
-
-last-closed : (slash : Bool) (byte : ℕ) (text : List ℕ) → get_or (byte ∷ text) (length text) 0 ≢ 92 → slashed slash (byte ∷ text) ≡ false
-last-closed slash byte [] h =
-    ⊎_elim (λ (t : eqb byte 92 ≡ true). absurd (h (eqb-true byte 92 t))) (λ (f : eqb byte 92 ≡ false). f) (decided (eqb byte 92))
-last-closed slash byte (next ∷ text) h = last-closed (eqb byte 92) next text h
-
--- a name ends with no backslash
-name-closed : (name : List ℕ) → IsName name → slashed false name ≡ false
-name-closed [] is = refl
-name-closed (byte ∷ text) is =
-    let e : length (byte ∷ text) - 1 ≡ length text = omega arith in
-    last-closed false byte text (subst (λ (n : ℕ). get_or (byte ∷ text) n 0 ≢ 92) e is.closed)
-
-and-false : (a : Bool) → (a && false) ≡ false
-and-false true = refl
-and-false false = refl
-
-module _ (mark : ℕ) (picks : ℕ → Bool) (marked : picks mark ≡ true) (plain : picks 92 ≡ false) where
-  not-mark : (byte : ℕ) → picks byte ≡ false → eqb byte mark ≡ false
-  not-mark byte e =
-      ⊎_elim
-      (λ (t : eqb byte mark ≡ true). absurd (false≢true (sym e ∙ ap picks (eqb-true byte mark t) ∙ marked)))
-      (λ (f : eqb byte mark ≡ false). f)
-      (decided (eqb byte mark))
-
-  -- an escaped name holds no mark
-  pub pass-rest : (slash : Bool) (name behind : List ℕ) → rest mark slash (escaped picks name ++ behind) ≡ rest mark (slashed slash name) behind
-  pass-rest slash [] behind = refl
-  pass-rest slash (byte ∷ name) behind =
-      let more = escaped picks name ++ behind in
-      ⊎_elim
-      (λ (e : picks byte ≡ true).
-      ap (λ (t : Bool). rest mark slash (cond t (92 ∷ byte ∷ escaped picks name) (byte ∷ escaped picks name) ++ behind)) e
-      ∙ ap (λ (t : Bool). cond (t && not slash) (92 ∷ byte ∷ more) (rest mark true (byte ∷ more))) (not-mark 92 plain)
-      ∙ ap (λ (t : Bool). cond t (byte ∷ more) (rest mark (eqb byte 92) more)) (and-false (eqb byte mark))
-      ∙ pass-rest (eqb byte 92) name behind)
-      (λ (e : picks byte ≡ false).
-      ap (λ (t : Bool). rest mark slash (cond t (92 ∷ byte ∷ escaped picks name) (byte ∷ escaped picks name) ++ behind)) e
-      ∙ ap (λ (t : Bool). cond (t && not slash) (byte ∷ more) (rest mark (eqb byte 92) more)) (not-mark byte e)
-      ∙ pass-rest (eqb byte 92) name behind)
-      (decided (picks byte))
-
-  pub pass-front : (slash : Bool) (name behind : List ℕ) → front mark slash (escaped picks name ++ behind) ≡ escaped picks name ++ front mark (slashed slash name) behind
-  pass-front slash [] behind = refl
-  pass-front slash (byte ∷ name) behind =
-      let more = escaped picks name ++ behind in
-      let end = front mark (slashed (eqb byte 92) name) behind in
-      ⊎_elim
-      (λ (e : picks byte ≡ true).
-      ap (λ (t : Bool). front mark slash (cond t (92 ∷ byte ∷ escaped picks name) (byte ∷ escaped picks name) ++ behind)) e
-      ∙ ap (λ (t : Bool). cond (t && not slash) [] (92 ∷ front mark true (byte ∷ more))) (not-mark 92 plain)
-      ∙ ap (λ (t : Bool). 92 ∷ cond t [] (byte ∷ front mark (eqb byte 92) more)) (and-false (eqb byte mark))
-      ∙ ap (λ (t : List ℕ). 92 ∷ byte ∷ t) (pass-front (eqb byte 92) name behind)
-      ∙ sym (ap (λ (t : Bool). cond t (92 ∷ byte ∷ escaped picks name) (byte ∷ escaped picks name) ++ end) e))
-      (λ (e : picks byte ≡ false).
-      ap (λ (t : Bool). front mark slash (cond t (92 ∷ byte ∷ escaped picks name) (byte ∷ escaped picks name) ++ behind)) e
-      ∙ ap (λ (t : Bool). cond (t && not slash) [] (byte ∷ front mark (eqb byte 92) more)) (not-mark byte e)
-      ∙ ap (λ (t : List ℕ). byte ∷ t) (pass-front (eqb byte 92) name behind)
-      ∙ sym (ap (λ (t : Bool). cond t (92 ∷ byte ∷ escaped picks name) (byte ∷ escaped picks name) ++ end) e))
-      (decided (picks byte))
-
--- the same, of a name behind which none of its bytes escapes the next
-over-rest : (mark : ℕ) (picks : ℕ → Bool) → picks mark ≡ true → picks 92 ≡ false → (name behind : List ℕ) → IsName name → rest mark false (escaped picks name ++ behind) ≡ rest mark false behind
-over-rest mark picks marked plain name behind is =
-    pass-rest mark picks marked plain false name behind ∙ ap (λ (s : Bool). rest mark s behind) (name-closed name is)
-
-over-front : (mark : ℕ) (picks : ℕ → Bool) → picks mark ≡ true → picks 92 ≡ false → (name behind : List ℕ) → IsName name → front mark false (escaped picks name ++ behind) ≡ escaped picks name ++ front mark false behind
-over-front mark picks marked plain name behind is =
-    pass-front mark picks marked plain false name behind ∙ ap (λ (s : Bool). escaped picks name ++ front mark s behind) (name-closed name is)
-
--- the text of a name spells it
-escaped-begin : (picks : ℕ → Bool) → picks 92 ≡ false → (name : List ℕ) → begins_with picks (escaped picks name) ≡ false
-escaped-begin picks plain [] = refl
-escaped-begin picks plain (byte ∷ name) =
-    ⊎_elim
-    (λ (e : picks byte ≡ true). ap (λ (t : Bool). begins_with picks (cond t (92 ∷ byte ∷ escaped picks name) (byte ∷ escaped picks name))) e ∙ plain)
-    (λ (e : picks byte ≡ false). ap (λ (t : Bool). begins_with picks (cond t (92 ∷ byte ∷ escaped picks name) (byte ∷ escaped picks name))) e ∙ e)
-    (decided (picks byte))
-
-not-slash : (picks : ℕ → Bool) → picks 92 ≡ false → (byte : ℕ) → picks byte ≡ true → eqb byte 92 ≡ false
-not-slash picks plain byte e =
-    ⊎_elim
-    (λ (t : eqb byte 92 ≡ true). absurd (false≢true (sym plain ∙ ap picks (sym (eqb-true byte 92 t)) ∙ e)))
-    (λ (f : eqb byte 92 ≡ false). f)
-    (decided (eqb byte 92))
-
-spells-itself : (picks : ℕ → Bool) → picks 92 ≡ false → (name : List ℕ) → unescaped picks (escaped picks name) ≡ name
-spells-itself picks plain [] = refl
-spells-itself picks plain (byte ∷ name) =
-    ⊎_elim
-    (λ (e : picks byte ≡ true).
-    ap (λ (t : Bool). unescaped picks (cond t (92 ∷ byte ∷ escaped picks name) (byte ∷ escaped picks name))) e
-    ∙ ap (λ (t : Bool). cond t (unescaped picks (byte ∷ escaped picks name)) (92 ∷ unescaped picks (byte ∷ escaped picks name))) e
-    ∙ ap (λ (t : Bool). cond (t && begins_with picks (escaped picks name)) (unescaped picks (escaped picks name)) (byte ∷ unescaped picks (escaped picks name))) (not-slash picks plain byte e)
-    ∙ ap (λ (t : List ℕ). byte ∷ t) (spells-itself picks plain name))
-    (λ (e : picks byte ≡ false).
-    ap (λ (t : Bool). unescaped picks (cond t (92 ∷ byte ∷ escaped picks name) (byte ∷ escaped picks name))) e
-    ∙ ap (λ (t : Bool). cond (eqb byte 92 && t) (unescaped picks (escaped picks name)) (byte ∷ unescaped picks (escaped picks name))) (escaped-begin picks plain name)
-    ∙ ap (λ (t : Bool). cond t (unescaped picks (escaped picks name)) (byte ∷ unescaped picks (escaped picks name))) (and-false (eqb byte 92))
-    ∙ ap (λ (t : List ℕ). byte ∷ t) (spells-itself picks plain name))
-    (decided (picks byte))
-
--- the first part, and the parts behind its mark
-parts-first : (mark : ℕ) (slash : Bool) (text : List ℕ) → parts mark slash text ≡ front mark slash text ∷ parts_behind mark (rest mark slash text)
-parts-first mark slash [] = refl
-parts-first mark slash (byte ∷ text) =
-    let Whole : Bool → Type 0 = λ t. cond t ([] ∷ parts mark false text) (onto_first byte (parts mark (eqb byte 92) text)) ≡ cond t [] (byte ∷ front mark (eqb byte 92) text) ∷ parts_behind mark (cond t (byte ∷ text) (rest mark (eqb byte 92) text)) in
-    ⊎_elim
-    (λ (e : (eqb byte mark && not slash) ≡ true). subst Whole (sym e) refl)
-    (λ (e : (eqb byte mark && not slash) ≡ false). subst Whole (sym e) (ap (λ (ps : List (List ℕ)). onto_first byte ps) (parts-first mark (eqb byte 92) text)))
-    (decided (eqb byte mark && not slash))
-
-pub parts-step : (left : List ℕ) (first : ℕ) (behind part after : List ℕ) → left ≡ first ∷ behind → part ≡ front 44 false behind → after ≡ rest 44 false behind → parts_behind 44 left ≡ part ∷ parts_behind 44 after
-parts-step left first behind part after e p a =
-    ap (λ (t : List ℕ). parts_behind 44 t) e
-    ∙ parts-first 44 false behind
-    ∙ ap (λ (t : List ℕ). t ∷ parts_behind 44 (rest 44 false behind)) (sym p)
-    ∙ ap (λ (t : List ℕ). part ∷ parts_behind 44 t) (sym a)
-
-pub rest-le : (mark : ℕ) (slash : Bool) (text : List ℕ) → length (rest mark slash text) ≤ length text
-rest-le mark slash [] = omega arith
-rest-le mark slash (byte ∷ text) =
-    let behind = rest-le mark (eqb byte 92) text in
-    let Less : Bool → Type 0 = λ t. length (cond t (byte ∷ text) (rest mark (eqb byte 92) text)) ≤ length (byte ∷ text) in
-    ⊎_elim
-    (λ (e : (eqb byte mark && not slash) ≡ true). subst Less (sym e) (omega arith))
-    (λ (e : (eqb byte mark && not slash) ≡ false). subst Less (sym e) (omega (arith, behind)))
-    (decided (eqb byte mark && not slash))
-
-tags-rest : (tags : List Tag) → rest 44 false (tags_text tags) ≡ tags_text tags
-tags-rest [] = refl
-tags-rest (tag ∷ tags) = refl
-
-tags-front : (tags : List Tag) → front 44 false (tags_text tags) ≡ []
-tags-front [] = refl
-tags-front (tag ∷ tags) = refl
-
-abbrev tag_part : Tag → List ℕ
-tag_part tag = escaped tag_ends_at tag.key ++ 61 ∷ escaped tag_ends_at tag.value
-
-abbrev AreNamed : Tag → Type 0
-AreNamed tag = IsName tag.key × IsName tag.value
-
--- the key, and what stands behind it
-tags-shape : (tag : Tag) (tags : List Tag) → tags_text (tag ∷ tags) ≡ 44 ∷ (escaped tag_ends_at tag.key ++ 61 ∷ (escaped tag_ends_at tag.value ++ tags_text tags))
-tags-shape tag tags = ap (λ (t : List ℕ). 44 ∷ t) (append_assoc (escaped tag_ends_at tag.key) (61 ∷ escaped tag_ends_at tag.value) (tags_text tags))
-
-one-tag : (tag : Tag) (tags : List Tag) → AreNamed tag → parts_behind 44 (tags_text (tag ∷ tags)) ≡ tag_part tag ∷ parts_behind 44 (tags_text tags)
-one-tag tag tags named =
-    let key = escaped tag_ends_at tag.key in
-    let value = escaped tag_ends_at tag.value in
-    let behind = key ++ 61 ∷ (value ++ tags_text tags) in
-    let first : front 44 false behind ≡ tag_part tag =
-    over-front 44 tag_ends_at refl refl tag.key (61 ∷ (value ++ tags_text tags)) named.0
-    ∙ ap (λ (t : List ℕ). key ++ 61 ∷ t) (over-front 44 tag_ends_at refl refl tag.value (tags_text tags) named.1 ∙ ap (λ (t : List ℕ). value ++ t) (tags-front tags) ∙ append-nil value)
-    in
-    let after : rest 44 false behind ≡ tags_text tags =
-    over-rest 44 tag_ends_at refl refl tag.key (61 ∷ (value ++ tags_text tags)) named.0
-    ∙ over-rest 44 tag_ends_at refl refl tag.value (tags_text tags) named.1
-    ∙ tags-rest tags
-    in
-    parts-step (tags_text (tag ∷ tags)) 44 behind (tag_part tag) (tags_text tags) (tags-shape tag tags) (sym first) (sym after)
-
-key-of-part : (tag : Tag) → AreNamed tag → tag_key (tag_part tag) ≡ tag.key
-key-of-part tag named =
-    ap (λ (t : List ℕ). unescaped tag_ends_at t) (over-front 61 tag_ends_at refl refl tag.key (61 ∷ escaped tag_ends_at tag.value) named.0 ∙ append-nil (escaped tag_ends_at tag.key))
-    ∙ spells-itself tag_ends_at refl tag.key
-
-abbrev Named : List Tag → Type 0
-Named tags = All (λ tag. IsName tag.key × IsName tag.value) tags
+use Rattle.point_model.specs.declared.condition.TagCond.{the_lemmas}
+use Rattle.point_model.specs.declared.condition.TagCond.TheVariants as condition
+use Rattle.point_model.specs.Conditions.{meets}
+use Rattle.point_model.specs.Cursors.{Key}
+use Rattle.point_model.specs.Tags.{parts_behind}
+use Rattle.point_model.proofs.TagLemmas.{Named, over-rest, tags-rest, one-tag, key-of-part}
+use Rattle.store_trait.specs.Slots.{Rows}
+use Rattle.store_trait.specs.Tags.{IsTagKeyOf, tag_key, keys_in, keys_within}
+use Rattle.store_trait.proofs.InLemmas.{In as Among}
 
 abbrev key_of : Tag → List ℕ
 key_of tag = tag.key
@@ -276,13 +104,13 @@ Entries = List (List ℕ × List ℕ)
 abbrev Found : List ℕ → Entries → Type 0
 Found key entries = (place : ℕ) × (series : List ℕ) × (field : List ℕ) × (slice_get entries place ≡ Some (series, field)) × IsTagKeyOf key series
 
-found-in : (key : List ℕ) (entries : Entries) → All (λ entry. IsSeriesText entry.0) entries → In key (keys_within entries) → Found key entries
+found-in : (key : List ℕ) (entries : Entries) → ((series field : List ℕ) → Among (series, field) entries → IsSeriesText series) → In key (keys_within entries) → Found key entries
 found-in key [] texts is = absurd is
 found-in key (entry ∷ entries) texts is =
     ⊎_elim
-    (λ (here : In key (keys_in entry.0)). let found : Found key (entry ∷ entries) = (0, entry.0, entry.1, refl, in-key key entry.0 (texts 0 entry (omega arith)) here) in found)
+    (λ (here : In key (keys_in entry.0)). let found : Found key (entry ∷ entries) = (0, entry.0, entry.1, refl, in-key key entry.0 (texts entry.0 entry.1 (inl refl)) here) in found)
     (λ (behind : In key (keys_within entries)).
-    let there = found-in key entries (λ k d l. texts (suc k) d (omega arith)) behind in
+    let there = found-in key entries (λ series field m. texts series field (inr m)) behind in
     let found : Found key (entry ∷ entries) = (suc there.0, there.1, there.2, there.3, there.4) in
     found)
     (in-both (keys_in entry.0) (keys_within entries) key is)
@@ -306,10 +134,35 @@ in-found key (entry ∷ entries) (suc place) series field e is =
     in-right (keys_in entry.0) (keys_within entries) key (in-found key entries place series field e is)
 
 -- the keys that are found are those of the series
-pub keys-found : (key : List ℕ) (entries : Entries) (found : List (List ℕ)) → found ≡ keys_within entries → All (λ entry. IsSeriesText entry.0) entries → Contains found key → Found key entries
+pub keys-found : (key : List ℕ) (entries : Entries) (found : List (List ℕ)) → found ≡ keys_within entries → ((series field : List ℕ) → Among (series, field) entries → IsSeriesText series) → Contains found key → Found key entries
 keys-found key entries found same texts is =
     found-in key entries texts (subst (λ (ks : List (List ℕ)). In key ks) same (contains-in found key is))
 
 pub found-keys : (key : List ℕ) (entries : Entries) (found : List (List ℕ)) → found ≡ keys_within entries → Found key entries → Contains found key
 found-keys key entries found same is =
     in-contains found key (subst (λ (ks : List (List ℕ)). In key ks) (sym same) (in-found key entries is.0 is.1 is.2 is.3 is.4))
+
+and_true : (a : Bool) → a ≡ (a && true)
+and_true true = refl
+and_true false = refl
+
+-- each series meets it
+pub always_met : (series : List ℕ) → meets condition.True series ≡ true
+always_met series = search (rules, the_lemmas)
+
+pub of_whole : (measurement series : List ℕ) → is_series_of measurement series ≡ (is_series_of measurement series && meets condition.True series)
+of_whole measurement series =
+    and_true (is_series_of measurement series) ∙ ap (λ (b : Bool). is_series_of measurement series && b) (sym (always_met series))
+
+within-append : (xs ys : List (Key × Rows)) → keys_within (keys_of (xs ++ ys)) ≡ keys_within (keys_of xs) ++ keys_within (keys_of ys)
+within-append [] ys = refl
+within-append (x ∷ xs) ys =
+    ap (λ (ks : List (List ℕ)). keys_in x.0.0 ++ ks) (within-append xs ys) ∙ sym (append_assoc (keys_in x.0.0) (keys_within (keys_of xs)) (keys_within (keys_of ys)))
+
+-- the keys of one series more
+pub within_next : (found more : List (List ℕ)) (xs ys : List (Key × Rows)) → more ≡ found ++ keys_within (keys_of xs)
+    → more ++ keys_within (keys_of ys) ≡ found ++ keys_within (keys_of (xs ++ ys))
+within_next found more xs ys is =
+    ap (λ (ks : List (List ℕ)). ks ++ keys_within (keys_of ys)) is
+    ∙ append_assoc found (keys_within (keys_of xs)) (keys_within (keys_of ys))
+    ∙ ap (λ (ks : List (List ℕ)). found ++ ks) (sym (within-append xs ys))

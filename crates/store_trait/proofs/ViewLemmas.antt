@@ -14,10 +14,11 @@ use Rattle.tsdb_types.specs.declared.value.Value.{Value}
 use Rattle.tsdb_types.specs.declared.value.Kind.{Kind}
 use Rattle.point_model.specs.declared.names.Names.{Names}
 use Rattle.point_model.specs.declared.need.Need.{Need}
-use Rattle.point_model.specs.declared.need.TagCond.{TagCond}
-use Rattle.point_model.specs.declared.need.TagCond.TheVariants as condition
+use Rattle.point_model.specs.declared.condition.TagCond.{TagCond}
+use Rattle.point_model.specs.declared.condition.TagCond.TheVariants as condition
 use Rattle.point_model.specs.Acceptance.{IsSound}
-use Rattle.point_model.specs.Cursors.{Key, Shown, Gives, AreFields, AreTagKeys, AreKeys, cell_at, meets, rows_needed}
+use Rattle.point_model.specs.Conditions.{meets}
+use Rattle.point_model.specs.Cursors.{Key, Shown, Gives, AreFields, AreTagKeys, AreKeys, cell_at, rows_needed}
 use Rattle.point_model.specs.Measurements.{measurement_head}
 use Rattle.point_model.specs.Points.{Points, cell_cmp}
 use Rattle.point_model.specs.Rows.{Row}
@@ -60,8 +61,9 @@ module _ (slots : Slots) (samples : Samples) (points : Points) (fits : Fits slot
 
 -- ---- the tag keys
 
-always_met : (tags : TagCond) (series : List ℕ) → meets tags series ≡ true
-always_met condition.True series = refl
+-- each series meets it
+abbrev pub IsAlwaysMet : TagCond → Type 0
+IsAlwaysMet tags = (series : List ℕ) → meets tags series ≡ true
 
 -- a measurement has one text
 one_measurement : ReadsOnce → (m n : List ℕ) → IsName m → IsName n → measurement_text m ≡ measurement_text n → m ≡ n
@@ -73,9 +75,9 @@ abbrev pub TagKeysAre : List Key → List (List ℕ) → Type 0
 TagKeysAre keys found =
     (key : List ℕ) → Contains found key ↔ ((place : ℕ) × (series field : List ℕ) × (slice_get keys place ≡ Some (series, field)) × IsTagKeyOf key series)
 
-pub tag_keys_are : ReadsOnce → (points : Points) (need : Need) (keys : List Key) (found : List (List ℕ)) → IsName need.measurement → AreKeys points need keys
+pub tag_keys_are : ReadsOnce → (points : Points) (need : Need) (keys : List Key) (found : List (List ℕ)) → IsName need.measurement → IsAlwaysMet need.tags → AreKeys points need keys
     → IsStrictlySortedBy text_cmp found → TagKeysAre keys found → AreTagKeys points need.measurement found
-tag_keys_are once points need keys found named are ascend exact = record {
+tag_keys_are once points need keys found named met are ascend exact = record {
   ascend = ascend;
   exact = λ key. (
     λ c.
@@ -93,7 +95,7 @@ tag_keys_are once points need keys found named are ascend exact = record {
         let tags = has.2 in
         let head : measurement_head cell.series ≡ measurement_text need.measurement = ap measurement_head tags.2 ∙ head_of_series need.measurement tags.0 named in
         let of : (is_series_of need.measurement cell.series && meets need.tags cell.series) ≡ true =
-        and_both _ _ (of_measurement need.measurement cell.series named ∙ text_itself _ _ head) (always_met need.tags cell.series) in
+        and_both _ _ (of_measurement need.measurement cell.series named ∙ text_itself _ _ head) (met cell.series) in
         let at = (are.exact (cell.series, cell.field)).1 (cell.time, has.1, of) in
         (exact key).1 (
           at.0,

@@ -3,13 +3,15 @@ use Rattle.std.specs.Prelude.{ℕ, ℤ, int_le, Bool, false, ◌&&◌, ◌||◌,
 use Rattle.std.specs.BTreeMap.{BTreeMap, get, IsOrdered}
 use Rattle.std.specs.Ordering.{int_cmp}
 use Rattle.std.specs.Option.{option_map_or}
-use Rattle.tsdb_types.specs.Series.{is_series_of}
+use Rattle.tsdb_types.specs.Series.{is_series_of, IsSeriesText}
 use Rattle.tsdb_types.specs.Values.{kind_of}
 use Rattle.tsdb_types.specs.declared.point.Cell.{Cell}
 use Rattle.tsdb_types.specs.declared.value.Value.{Value}
 use Rattle.tsdb_types.specs.declared.value.Kind.{Kind}
+use Rattle.point_model.specs.declared.condition.TagCond.TheVariants as condition
 use Rattle.point_model.specs.declared.need.Need.{Need}
-use Rattle.point_model.specs.Cursors.{Key, meets, in_order}
+use Rattle.point_model.specs.Conditions.{meets}
+use Rattle.point_model.specs.Cursors.{Key, in_order}
 use Rattle.point_model.specs.Rows.{Row}
 use Rattle.store_trait.specs.Slots.{Rows, Fields, Slots, Samples, slot_at, held, text_cmp}
 
@@ -42,6 +44,16 @@ abbrev pub listed : Need → List (List ℕ × Fields) → List (Key × Rows)
 listed need [] = []
 listed need (entry ∷ entries) =
     if is_series_of need.measurement entry.0 && meets need.tags entry.0 then fields_listed entry.0 entry.1.entries ++ listed need entries else listed need entries
+
+-- the need of all series of its measurement
+abbrev pub whole : Need → Need
+whole need = record need { tags = condition.True }
+
+-- the texts of the series that the need asks for are keys of series
+abbrev pub AreSeriesTexts : Need → List (List ℕ × Fields) → Type 0
+AreSeriesTexts need [] = Unit {0}
+AreSeriesTexts need (entry ∷ entries) =
+    (IsTrue (is_series_of need.measurement entry.0 && meets need.tags entry.0) → IsSeriesText entry.0) × AreSeriesTexts need entries
 
 -- the slots of each field stand by time
 abbrev pub AreOrderedRows : List (List ℕ × Rows) → Type 0

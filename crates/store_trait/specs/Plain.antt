@@ -9,8 +9,9 @@ use Rattle.tsdb_types.specs.declared.point.Point.{Point}
 use Rattle.tsdb_types.specs.declared.value.Value.{Value}
 use Rattle.tsdb_types.specs.declared.value.Kind.{Kind}
 use Rattle.point_model.specs.Acceptance.{Conflict, conflict_before, is_same_kind}
-use Rattle.point_model.specs.Histories.{Entry, nothing, after}
-use Rattle.point_model.specs.Histories.Entry.{Write}
+use Rattle.point_model.specs.declared.entry.Entry.{Entry}
+use Rattle.point_model.specs.Histories.{nothing, after}
+use Rattle.point_model.specs.declared.entry.Entry.TheVariants.{Write}
 use Rattle.point_model.specs.Measurements.{measurement_head, is_same_field}
 use Rattle.point_model.specs.Points.{Points, no_points, value_at}
 use Rattle.store_trait.specs.Slots.{Slots, Samples, slot_at, sample_of, held}

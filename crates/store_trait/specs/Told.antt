@@ -1,7 +1,8 @@
 -- What does a store tell of itself, and what may a call change of it?
 use Rattle.std.specs.Prelude.{◌≡◌, ℕ, ◌≤◌, Bool, List, ◌++◌, length, sum_by, Option}
-use Rattle.point_model.specs.Histories.{Entry, State, state_after}
-use Rattle.point_model.specs.Histories.Entry.{Write}
+use Rattle.point_model.specs.declared.entry.Entry.{Entry}
+use Rattle.point_model.specs.Histories.{State, state_after}
+use Rattle.point_model.specs.declared.entry.Entry.TheVariants.{Write, Delete}
 
 -- The limits of a store, and what it held of what they limit at its start: the points in the cache and in a snapshot of
 -- it, and the texts of the series.
@@ -60,6 +61,7 @@ pub record IsAlike (old new : Told) : Type 0 where
 -- how many points the entries wrote
 abbrev pub points_in : Entry → ℕ
 points_in (Write client points) = length points
+points_in (Delete client deletion) = 0
 
 abbrev pub points_written : List Entry → ℕ
 points_written history = sum_by points_in history

@@ -4,13 +4,13 @@ ghost use Rattle.std.specs.BTreeMap.{IsOrdered};
 ghost use Rattle.std.specs.Map.{keys_of};
 ghost use Rattle.std.specs.Ordering.{int_cmp};
 ghost use Rattle.tsdb_types.specs.Series.{is_series_of};
-ghost use Rattle.point_model.specs.Cursors.{meets};
+ghost use Rattle.point_model.specs.Conditions.{meets};
 ghost use Rattle.store_trait.specs.Gathered.{has_value, rows_set, rows_taken, fields_listed, listed, AreOrdered, AreOrderedRows};
 ghost use Rattle.store_trait.specs.Lists.{lists_of};
 ghost use Rattle.store_trait.specs.Slots.{text_cmp};
 
 use crate::slots::{Fields, Rows, Slots};
-use point_model::{Need, TagCond};
+use point_model::Need;
 use std::alloc::{AllocError, Global};
 use tsdb_types::{Name, SeriesKey, Time, Value};
 
@@ -39,15 +39,7 @@ pub(crate) fn gather(
 fn is_needed(need: &Need, series: &SeriesKey) -> bool
     ensures { result ≡ (is_series_of need.now.measurement series.now && meets need.now.tags series.now) }
 {
-    series.is_of(&need.measurement) && is_met(need.tags, series)
-}
-
-fn is_met(tags: TagCond, _series: &SeriesKey) -> bool
-    ensures { result ≡ meets tags _series.now }
-{
-    match tags {
-        TagCond::True => true,
-    }
+    series.is_of(&need.measurement) && need.tags.meets(series)
 }
 
 fn gather_fields(
@@ -73,7 +65,7 @@ fn gather_fields(
     Ok(())
 }
 
-fn has_values(column: &Rows) -> bool
+pub(crate) fn has_values(column: &Rows) -> bool
     ensures value { result ≡ has_value column.now.entries }
     ensures ordered { IsOrdered int_cmp column.now }
 {

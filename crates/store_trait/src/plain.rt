@@ -33,8 +33,12 @@ pub struct PlainStore {
 impl Model for PlainStore {
     ghost use Rattle.store_trait.specs.Told.{Told};
     ghost use Rattle.store_trait.specs.Plain.{told_of, Holds};
+    ghost use Rattle.point_model.specs.contracts.condition.TagCond as tag_condition;
+    ghost use Rattle.std.specs.Coded.{codes};
 
     ghost Value = { Told };
+
+    ghost coded = { Prim.hlevel (codes, tag_condition.the_row.coded) };
 
     ghost view = { λ s. told_of s.client s.batches.items s.views };
 
@@ -123,7 +127,7 @@ impl PlainStore {
         gather(self.alloc, &self.slots, need, &mut keys, &mut rows)?;
         // By this law a series is of one measurement.
         reads_once();
-        let tag_keys = tag_keys_of(self.alloc, keys.as_slice())?;
+        let tag_keys = tag_keys_of(self.alloc, &self.slots, need)?;
         let names = Names {
             fields: Fields::new(fields),
             tag_keys: TagKeys::new(tag_keys),

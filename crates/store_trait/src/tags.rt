@@ -1,45 +1,86 @@
 // The keys of the tags of series.
-ghost use Rattle.std.specs.Prelude.{◌≡◌, ◌↔◌, ◌++◌, ◌∷◌, ℕ, false, List, Some, All, Contains, IfOk, OnOk, slice_get};
+ghost use Rattle.std.specs.Prelude.{◌≡◌, ◌↔◌, ◌&&◌, ◌++◌, ◌∷◌, ℕ, false, List, Some, Contains, IfOk, OnOk, slice_get};
+ghost use Rattle.std.specs.BTreeMap.{IsOrdered};
+ghost use Rattle.std.specs.Map.{keys_of};
 ghost use Rattle.std.specs.List.Sorted.{IsStrictlySortedBy};
-ghost use Rattle.tsdb_types.specs.Series.{tag_ends_at, IsSeriesText};
+ghost use Rattle.tsdb_types.specs.Series.{tag_ends_at, is_series_of, IsSeriesText};
+ghost use Rattle.tsdb_types.specs.Spelled.{begins_with, unescaped};
+ghost use Rattle.point_model.specs.Conditions.{meets};
+ghost use Rattle.point_model.specs.Tags as spec;
+ghost use Rattle.store_trait.specs.Gathered.{fields_listed, listed, whole, AreOrdered, AreOrderedRows, AreSeriesTexts};
 ghost use Rattle.store_trait.specs.Slots.{text_cmp};
-ghost use Rattle.store_trait.specs.Tags.{IsTagKeyOf, unescaped, keys_in, keys_within};
-ghost use Rattle.store_trait.specs.Tags as spec;
+ghost use Rattle.store_trait.specs.Tags.{IsTagKeyOf, keys_in, keys_within};
 
+use crate::gather::has_values;
+use crate::slots::{Fields, Slots};
+use point_model::Need;
 use std::alloc::{AllocError, AllocFailed, Global};
 use tsdb_types::{Name, SeriesKey};
 
 const TAG_ENDS: &[u8] = b",= ";
 
-// The keys of the tags of these series, each once, in ascending order.
+// The keys of the tags that the series with points have in the measurement, each once, in ascending order.
 pub(crate) fn tag_keys_of(
     alloc: Global,
-    keys: &[(SeriesKey, Name)],
+    slots: &Slots,
+    need: &Need,
 ) -> Result<Vec<Name>, AllocError>
     ensures ascend { IfOk result (λ found. IsStrictlySortedBy text_cmp found.items) }
-    ensures exact { IfOk result (λ found. (key : List ℕ) → Contains found.items key ↔ ((place : ℕ) × (series field : List ℕ) × (slice_get keys.now place ≡ Some (series, field)) × IsTagKeyOf key series)) }
+    ensures exact { IfOk result (λ found. (key : List ℕ) → Contains found.items key
+        ↔ ((place : ℕ) × (series field : List ℕ) × (slice_get (keys_of (listed (whole need.now) slots.now.entries)) place ≡ Some (series, field)) × IsTagKeyOf key series)) }
+    ensures all_ordered { OnOk result (AreOrdered (whole need.now) slots.now.entries) }
 {
-    let mut found = all_tag_keys(alloc, keys)?;
+    let mut found = all_tag_keys(alloc, slots, need)?;
     found.sort_unstable();
     found.dedup();
     Ok(found)
 }
 
-// Those keys, in the order of the series and of their tags.
-fn all_tag_keys(alloc: Global, keys: &[(SeriesKey, Name)]) -> Result<Vec<Name>, AllocError>
-    ensures keys { IfOk result (λ found. found.items ≡ keys_within keys.now) }
-    ensures series { IfOk result (λ _. All (λ entry. IsSeriesText entry.0) keys.now) }
+// Those keys, in the order of the series and of their tags, once for each field.
+fn all_tag_keys(alloc: Global, slots: &Slots, need: &Need) -> Result<Vec<Name>, AllocError>
+    ensures keys { IfOk result (λ found. found.items ≡ keys_within (keys_of (listed (whole need.now) slots.now.entries))) }
+    ensures series { OnOk result (AreSeriesTexts (whole need.now) slots.now.entries) }
+    ensures all_ordered { OnOk result (AreOrdered (whole need.now) slots.now.entries) }
 {
     let mut found = Vec::new(alloc);
-    for (series, _field) in keys {
-        add_tag_keys(alloc, series, &mut found)?;
+    for (series, fields) in slots {
+        if is_of_whole(need, series) {
+            add_series_keys(alloc, series, fields, &mut found)?;
+        }
     }
     Ok(found)
 }
 
+// The tag keys of a measurement are asked of all its series, whichever meet the condition.
+fn is_of_whole(need: &Need, series: &SeriesKey) -> bool
+    ensures { result ≡ (is_series_of (whole need.now).measurement series.now && meets (whole need.now).tags series.now) }
+{
+    series.is_of(&need.measurement)
+}
+
+fn add_series_keys(
+    alloc: Global,
+    series: &SeriesKey,
+    fields: &Fields,
+    found: &mut Vec<Name>,
+) -> Result<(), AllocError>
+    ensures keys { OnOk result (found.new.items ≡ found.old.items ++ keys_within (keys_of (fields_listed series.now fields.now.entries))) }
+    ensures series { IsSeriesText series.now }
+    ensures ordered { IsOrdered text_cmp fields.now }
+    ensures all_ordered { OnOk result (AreOrderedRows fields.now.entries) }
+{
+    let _ = series.text();
+    let _ = fields.len();
+    for (_field, column) in fields {
+        if has_values(column) {
+            add_tag_keys(alloc, series, found)?;
+        }
+    }
+    Ok(())
+}
+
 fn add_tag_keys(alloc: Global, series: &SeriesKey, found: &mut Vec<Name>) -> Result<(), AllocError>
     ensures keys { OnOk result (found.new.items ≡ found.old.items ++ keys_in series.now) }
-    ensures series { IsSeriesText series.now }
 {
     let (_measurement, tags) = cut(series.text().as_bytes(), b',');
     let mut left = tags;
@@ -105,7 +146,7 @@ fn push_named(text: &mut Vec<u8>, byte: u8, behind: &[u8]) -> Result<(), AllocEr
 }
 
 fn begins_with_end(text: &[u8]) -> bool
-    ensures { result ≡ spec.begins_with tag_ends_at text.now }
+    ensures { result ≡ begins_with tag_ends_at text.now }
 {
     match text.split_first() {
         None => false,

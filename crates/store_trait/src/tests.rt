@@ -2,7 +2,7 @@ ghost use Rattle.std.specs.Prelude.{Contains, IfSome};
 
 use super::*;
 use line_protocol::read_batch;
-use point_model::{Need, PointCursor, TagCond};
+use point_model::{Need, PointCursor, TagCond, TagText};
 use std::alloc::Global;
 use std::test::Fail;
 use tsdb_types::{Kind, Name, Time, Value};
@@ -100,6 +100,34 @@ fn names_are_those_of_the_measurement(rt: HostRuntime) -> Result<(), Fail> {
     assert_eq!(rt; names.fields.as_slice().len(), 2);
     assert_eq!(rt; names.tag_keys.as_slice().len(), 2);
     store.end_view(view);
+    Ok(())
+}
+
+#[test]
+fn view_lists_the_series_that_meet_the_condition(rt: HostRuntime) -> Result<(), Fail> {
+    let alloc = rt.alloc();
+    let mut store = PlainStore::new(alloc, 0);
+    let lines = "cpu,host=a v=1i 1\ncpu,host=b,zone=z v=2i 1\ncpu v=3i 1\ncpu,host=a\\ b v=4i 1";
+    assert_eq!(rt; write(alloc, &mut store, lines), Some(Ok(1)));
+    let rows = [
+        ("a", 1, "cpu,host=a v"),
+        ("", 1, "cpu v"),
+        ("a b", 1, "cpu,host=a\\ b v"),
+        ("c", 0, ""),
+    ];
+    for (host, count, first) in rows {
+        let mut need = need(alloc, "cpu", 1, false).expect(&rt, "a need");
+        need.tags = TagCond::Eq(
+            Name::new(alloc, "host").expect(&rt, "a name"),
+            TagText::new(String::from_str(alloc, host)?),
+        );
+        let view = begin(&mut store, &need).expect(&rt, "a view");
+        assert_eq!(rt; view.keys().len(), count);
+        assert_eq!(rt; key_of(alloc, &view, 0)?.as_str(), first);
+        // The names are those of the measurement, whichever series meet the condition.
+        assert_eq!(rt; view.names().tag_keys.as_slice().len(), 2);
+        store.end_view(view);
+    }
     Ok(())
 }
 

@@ -4,8 +4,9 @@ use Rattle.std.specs.List.{IsDistinct}
 use Rattle.std.specs.Str.{bytes_eq}
 use Rattle.shard_disk.specs.Health.{Health, Failed}
 use Rattle.tsdb_types.specs.declared.point.Point.{Point}
-use Rattle.point_model.specs.Histories.{Entry, state_after}
-use Rattle.point_model.specs.Histories.Entry.{Write}
+use Rattle.point_model.specs.declared.entry.Entry.{Entry}
+use Rattle.point_model.specs.Histories.{state_after}
+use Rattle.point_model.specs.declared.entry.Entry.TheVariants.{Write, Delete}
 use Rattle.point_model.specs.Acceptance.{conflict, IsAccepted}
 use Rattle.store_trait.specs.declared.fault.WriteFault.{WriteFault}
 use Rattle.store_trait.specs.declared.fault.WriteFault.TheVariants as fault
@@ -28,6 +29,7 @@ HasSeries points series = Any (λ point. point.cell.series ≡ series) points
 
 abbrev pub WritesSeries : List ℕ → Entry → Type 0
 WritesSeries series (Write client points) = HasSeries points series
+WritesSeries series (Delete client deletion) = ⊥
 
 -- The series of the batch that neither the start nor the history has, each once.
 pub record AreNew (points : List Point) (limits : Limits) (history : List Entry) (series : List (List ℕ)) : Type 0 where

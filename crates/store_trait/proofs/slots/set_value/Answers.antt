@@ -5,7 +5,7 @@ use Rattle.std.specs.Ordering.{int_cmp}
 use Rattle.std.proofs.lemmas.Map.Lookups.{exact_bytes}
 use Rattle.store_trait.specs.Slots.{slot_in, slot_at, text_cmp}
 use Rattle.store_trait.proofs.MapLemmas.{level_set}
-use Rattle.store_trait.proofs.PointLemmas.{cell_test}
+use Rattle.point_model.proofs.PointLemmas.{cell_test}
 use Rattle.store_trait.proofs.slots.set_value.Goals as goal
 
 pub returns-in-Some : goal.returns-in-Some

@@ -1,7 +1,9 @@
 use Rattle.std.proofs.Common.{◌≡◌, ℕ, List, [], ◌∷◌, ◌++◌, length, map, false, sym, ap, ◌∙◌, append_assoc, arith}
 use Rattle.tsdb_types.specs.Series.{tag_ends_at}
-use Rattle.store_trait.specs.Tags.{unescaped, tag_key, parts_behind}
-use Rattle.store_trait.proofs.TagLemmas.{parts-step, rest-le}
+use Rattle.tsdb_types.specs.Spelled.{unescaped}
+use Rattle.point_model.specs.Tags.{parts_behind}
+use Rattle.store_trait.specs.Tags.{tag_key}
+use Rattle.point_model.proofs.TagLemmas.{parts-step, rest-le}
 use Rattle.store_trait.proofs.tags.add_tag_keys.Goals as goal
 
 pub tags-smaller : goal.tags-smaller

@@ -1,5 +1,6 @@
 use Rattle.std.proofs.Common.{◌≡◌, ◌++◌, length, map}
-use Rattle.store_trait.specs.Tags.{tag_key, parts_behind}
+use Rattle.point_model.specs.Tags.{parts_behind}
+use Rattle.store_trait.specs.Tags.{tag_key}
 use Rattle.store_trait.proofs.tags.add_tag_keys.Given as goal
 
 abbrev pub invariant-tags : goal.invariant-tags

@@ -1,5 +1,5 @@
 use Rattle.std.proofs.Common.{◌≡◌, ◌++◌, false, take, drop}
-use Rattle.store_trait.specs.Tags.{front, rest}
+use Rattle.point_model.specs.Tags.{front, rest}
 use Rattle.store_trait.proofs.tags.cut.Given as goal
 
 abbrev pub invariant-loop-at : goal.invariant-loop-at

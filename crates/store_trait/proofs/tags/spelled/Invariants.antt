@@ -1,6 +1,6 @@
 use Rattle.std.proofs.Common.{◌≡◌, ◌++◌, length}
 use Rattle.tsdb_types.specs.Series.{tag_ends_at}
-use Rattle.store_trait.specs.Tags.{unescaped}
+use Rattle.tsdb_types.specs.Spelled.{unescaped}
 use Rattle.store_trait.proofs.tags.spelled.Given as goal
 
 abbrev pub invariant-loop-byte : goal.invariant-loop-byte

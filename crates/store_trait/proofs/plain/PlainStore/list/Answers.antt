@@ -7,7 +7,7 @@ use Rattle.point_model.specs.Cursors.{Gives, Key, AreFields, AreTagKeys}
 use Rattle.point_model.specs.Rows.{Row}
 use Rattle.point_model.specs.Histories.{after}
 use Rattle.point_model.specs.Points.{no_points}
-use Rattle.store_trait.specs.Gathered.{kinds_of, listed, rows_taken}
+use Rattle.store_trait.specs.Gathered.{kinds_of, listed, rows_taken, whole}
 use Rattle.store_trait.specs.Plain.{entries_of}
 use Rattle.store_trait.specs.Lists.{lists_of}
 use Rattle.store_trait.specs.Slots.{text_cmp}
@@ -15,7 +15,8 @@ use Rattle.store_trait.specs.Told.{Told, state_now}
 use Rattle.store_trait.proofs.AcceptLemmas.{in_order}
 use Rattle.store_trait.proofs.FieldLemmas.{fields_are}
 use Rattle.store_trait.proofs.KeyListLemmas.{keys_are, all_rows_are}
-use Rattle.store_trait.proofs.ViewLemmas.{TagKeysAre, gives_of, tag_keys_are}
+use Rattle.store_trait.proofs.TagLemmas.{always_met}
+use Rattle.store_trait.proofs.ViewLemmas.{gives_of, tag_keys_are}
 use Rattle.store_trait.proofs.plain.PlainStore.list.Goals as goal
 
 pub returns-clause-gives : goal.returns-clause-gives
@@ -39,7 +40,8 @@ returns-clause-gives c =
     (fields_are slots samples points fits need.measurement named
     (subst (λ (h : List ℕ). IfSome (get text_cmp samples h) (λ fs. IsOrdered text_cmp fs)) heading c.in_ok-fields.ensures.ordered)))
     (subst (λ (ks : List (List ℕ)). AreTagKeys points need.measurement ks) (sym c.new-2.ensures)
-    (tag_keys_are c.reads_once.ensures points need (keys_of entries) c.in_ok-tag_keys.tag_keys.items named are c.in_ok-tag_keys.ensures.ascend
-    (subst (λ (ks : List Key). TagKeysAre ks c.in_ok-tag_keys.tag_keys.items) (c.as_slice.ensures.value ∙ keys) c.in_ok-tag_keys.ensures.exact)))
+    (tag_keys_are c.reads_once.ensures points (whole need) (keys_of (listed (whole need) slots.entries)) c.in_ok-tag_keys.tag_keys.items named always_met
+    (keys_are (whole need) slots points fits.agrees sorted c.in_ok-gather.ensures.ordered c.in_ok-tag_keys.ensures.all_ordered)
+    c.in_ok-tag_keys.ensures.ascend c.in_ok-tag_keys.ensures.exact))
     are
     (rows ∙ all_rows_are need slots points fits.agrees sorted c.in_ok-gather.ensures.ordered c.in_ok-gather.ensures.all_ordered entries (λ key rs m. m)))
