@@ -1,0 +1,6 @@
+pub mod ListLemmas
+pub mod FormatLemmas
+pub mod TakeLemmas
+pub mod HoldLemmas
+pub mod OnceLemmas
+pub mod TestLemmas

@@ -1,0 +1,4 @@
+pub mod Calls
+pub mod Format
+pub mod Lists
+pub mod Reading

@@ -1,0 +1,38 @@
+-- Which series do records have, and which id has a series?
+use Rattle.std.specs.Prelude.{◌≡◌, ◌≢◌, ℕ, ◌+◌, ◌^◌, ◌≤◌, nat_eq, List, length, map, slice_get, Some}
+use Rattle.std.specs.List.{flat_map, AllByRecursion, IsDistinct}
+use Rattle.std.specs.Cmp.Lexicographic.{pointwise}
+use Rattle.series_store.specs.Format.{HasRoom, IsWritable, record_bytes}
+
+-- the most series that a file may have
+abbrev pub most_series : ℕ
+most_series = 10000000
+
+-- the id of a series is its place among all, counted from 0
+abbrev pub HasId : List (List ℕ) → List ℕ → ℕ → Type 0
+HasId series key id = slice_get series id ≡ Some key
+
+-- it is none of the series
+abbrev pub HasNoId : List (List ℕ) → List ℕ → Type 0
+HasNoId series key = (id : ℕ) → slice_get series id ≢ Some key
+
+-- the series of a file: none stands twice, and there are at most 10,000,000
+pub record IsList (series : List (List ℕ)) : Type 0 where
+  pub distinct : IsDistinct (pointwise nat_eq) series
+  pub few : length series ≤ most_series
+
+-- the records hold these series, one list behind the other
+pub record Hold (records : List (List ℕ)) (series : List (List ℕ)) : Type 0 where
+  pub lists : List (List (List ℕ))
+  pub are : records ≡ map record_bytes lists
+  pub written : AllByRecursion IsWritable lists
+  pub all : series ≡ flat_map (λ list. list) lists
+  pub sound : IsList series
+
+-- Series that may be added to those held: each is new and stands once, and all have room in one record and in the file.
+pub record MayAdd (held more : List (List ℕ)) : Type 0 where
+  pub distinct : IsDistinct (pointwise nat_eq) more
+  pub fresh : AllByRecursion (HasNoId held) more
+  pub few : length held + length more ≤ most_series
+  pub room : AllByRecursion HasRoom more
+  pub short : length (record_bytes more) ≤ 2 ^ 30

@@ -1,0 +1,16 @@
+//! The series of a directory with their ids: a log whose records are lists of series keys, and all keys in memory, by id
+//! and by key. `docs/FORMATS.md` draws the record.
+#![tactic(auto)]
+
+mod held;
+mod laws;
+mod put;
+mod read;
+mod series;
+mod take;
+
+pub use laws::{one_file, records_hold};
+pub use series::Series;
+
+#[cfg(test)]
+mod tests;
