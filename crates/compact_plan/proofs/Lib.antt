@@ -1,0 +1,4 @@
+pub mod LawLemmas
+pub mod MergeLemmas
+pub mod PlanLemmas
+pub mod TableLemmas
