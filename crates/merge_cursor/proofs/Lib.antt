@@ -1,0 +1,5 @@
+pub mod ChoiceLemmas
+pub mod OrderLemmas
+pub mod OverlayLemmas
+pub mod StepLemmas
+pub mod TurnLemmas
