@@ -1,0 +1,13 @@
+pub mod ConditionLemmas
+pub mod EntryLemmas
+pub mod GroupLemmas
+pub mod ListLemmas
+pub mod OnceLemmas
+pub mod PointLemmas
+pub mod PutLemmas
+pub mod RecordLemmas
+pub mod ReplayLemmas
+pub mod RoomLemmas
+pub mod SegmentLemmas
+pub mod StackLemmas
+pub mod TextLemmas

@@ -1,0 +1,9 @@
+pub mod Conditions
+pub mod Form
+pub mod Replay
+pub mod Replaying
+pub mod Runs
+pub mod Segments
+pub mod Spelling
+pub mod Stack
+pub mod Taking
