@@ -1,4 +1,4 @@
-ghost use Rattle.std.specs.Prelude.{◌≡◌, ℕ, List, Option};
+ghost use Rattle.std.specs.Prelude.{◌≡◌, ℕ, List};
 ghost use Rattle.shard_disk.specs.declared.damage.Damage.{Damage};
 ghost use Rattle.gate_log.specs.Damage.{IsDamaged, IsLog};
 ghost use Rattle.gate_log.specs.Records.{AllFit, IsGated};

@@ -14,7 +14,7 @@ returns-then-size-self-clause-crash g c =
 
 pub returns-in_err-settle-clause-refused : goal.returns-in_err-settle-clause-refused
 returns-in_err-settle-clause-refused g c =
-    let p = err_from_is_err_and c.from_residual-in_err-settle.result c.from_residual-in_err-settle.ensures.1 in
+    let p = err_from_is_err_and c.from_residual.result c.from_residual.ensures.1 in
     rw p.1 (record {
       stands = λ tells records doubt stands. (doubt, inr (inl refl), c.in_err-settle.ensures.refused.stands tells records doubt stands);
       sure = λ no_fault doubts. sym (ap (λ (log : Log). log.gate) c.in_err-settle.ensures.refused.same) ∙ doubts;
