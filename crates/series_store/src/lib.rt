@@ -13,6 +13,3 @@ mod take;
 pub use laws::{one_file, records_hold};
 pub use new::NewSeries;
 pub use series::Series;
-
-#[cfg(test)]
-mod tests;
