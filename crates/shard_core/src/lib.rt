@@ -1,0 +1,8 @@
+//! The pure machine of the engine: its state, its events and its invariant, with a law for each event. No code runs in it.
+#![tactic(auto)]
+
+mod laws;
+
+pub use laws::{
+    contents_show, crashes_leave, events_come, events_keep, every_list_keeps, histories_act,
+};
