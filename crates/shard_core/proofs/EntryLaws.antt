@@ -2,6 +2,7 @@
 use Rattle.std.proofs.Common.{◌≡◌, ◌≢◌, ◌⊎◌, ◌↔◌, ⊎_elim, inl, inr, Ordering, Less, Equal, Greater, is_eq, ℤ, ℕ, ◌+◌, ◌<◌, ◌≤◌, suc, Bool, true, false, cond, List, [], ◌∷◌, ◌++◌, map, ◌∙◌, ap, ap₂, sym, refl, subst, Option, Some, None, append_assoc}
 use Rattle.std.specs.Prelude.{option_map}
 use Rattle.std.specs.Option.{option_or}
+use Rattle.std.specs.Prelude.{IsSome}
 use Rattle.tsdb_types.specs.declared.point.Cell.{Cell}
 use Rattle.tsdb_types.specs.declared.point.Point.{Point}
 use Rattle.tsdb_types.specs.declared.value.Value.{Value}
@@ -14,14 +15,16 @@ use Rattle.point_model.specs.Cursors.{Key, cell_at}
 use Rattle.point_model.specs.Points.{cell_cmp, is_same_cell, value_at}
 use Rattle.point_model.proofs.PointLemmas.{cell_exact, cell_total}
 use Rattle.std.specs.Cmp.{eq_by_cmp_equiv}
-use Rattle.shard_core.specs.Contents.{overlay}
-use Rattle.shard_core.specs.Effects.{Effect, applied, effect, is_deleted_by, set_by, written}
+use Rattle.point_model.proofs.EffectLemmas.{IsSet, deleted_value, set_shows, spared_or, value_after_entry, value_after_write, value_without, written_sets}
+use Rattle.point_model.specs.Contents.{overlay}
+use Rattle.point_model.specs.Cursors.{HasKey}
+use Rattle.point_model.specs.Effects.{Effect, applied, effect, is_deleted_by, set_by, written}
+use Rattle.shard_core.specs.Contents.{held}
 use Rattle.shard_core.specs.EntryEvents.{Deletes, HasOfKey, Writes, cut_file, cut_merge, cut_snapshot, key_of_point, with_delete, with_write}
 use Rattle.shard_core.specs.Invariant.{IsIndex, MergeStands, Shows, ViewShows}
 use Rattle.shard_core.specs.Numbers.{AreApart, Climbs, count, held_by_views}
 use Rattle.shard_core.specs.Parts.{FileFollows, Parts}
-use Rattle.shard_core.specs.State.{Core, Merge, contents_of, generation_of, now_of, number_of, snapshot_contents, source_numbers}
-use Rattle.shard_core.proofs.ContentLemmas.{IsSet, cut_or, deleted_value, set_shows, value_after_entry, value_after_write, value_without, written_sets}
+use Rattle.shard_core.specs.State.{Core, Merge, contents_of, generation_of, now_of, number_of, points_of, snapshot_contents, source_numbers}
 use Rattle.shard_core.proofs.ListLemmas.{all_over, all_over_map, held_same, names_same, same_map}
 use Rattle.shard_core.proofs.Standing.{Standing}
 use Rattle.shard_core.proofs.PartLemmas
@@ -48,6 +51,15 @@ cell_same a b e = cell_exact a b (is_equal (cell_cmp a b) e)
 
 pub same_cell : (a : Cell) → is_same_cell a a ≡ true
 same_cell a = let laws = eq_by_cmp_equiv cell_total in laws.refl a
+
+-- a value that is there
+some_there : (o : Option Value) → IsSome o → o ≢ None
+some_there None some = absurd (cc)
+some_there (Some value) some = λ e. cc
+
+there_some : (o : Option Value) → o ≢ None → IsSome o
+there_some None there = absurd (there refl)
+there_some (Some value) there = refl
 
 -- the points set a cell of the key exactly where one of them is of it
 or_left : (o w : Effect) → o ≢ None → option_or o w ≢ None
@@ -116,23 +128,23 @@ module _ (client : ℕ) (points : List Point) (index : Key → Bool) (core : Cor
   write_index : IsIndex (after core.start.points (core.history ++ write ∷ [])) index
   write_index key = (
     λ is. ⊎_elim
-        (λ old. let has = (let was = inv.index key in was.0 old) in (
-          has.0,
-          λ none. touches_set (written points (cell_at key has.0)) (value_at (after core.start.points core.history) (cell_at key has.0))
-              (written_sets points (cell_at key has.0)) (inl has.1) (sym (PartLemmas.value_more core.start.points core.history write (cell_at key has.0)) ∙ none),
-        ))
-        (λ new. let has = written_there key points new in (
-          has.0,
-          λ none. touches_set (written points (cell_at key has.0)) (value_at (after core.start.points core.history) (cell_at key has.0))
-              (written_sets points (cell_at key has.0)) (inr has.1) (sym (PartLemmas.value_more core.start.points core.history write (cell_at key has.0)) ∙ none),
-        ))
+        (λ old. let has = (let was = inv.index key in was.0 old) in now_there has.0 (inl (some_there (value_at (points_of core) (cell_at key has.0)) has.1)))
+        (λ new. let has = written_there key points new in now_there has.0 (inr has.1))
         (let a = added key in a.0 is),
     λ has. let a = added key in a.1 (⊎_elim
-        (λ old. inl (let was = inv.index key in was.1 (has.0, old)))
+        (λ old. inl (let was = inv.index key in was.1 (has.0, there_some (value_at (points_of core) (cell_at key has.0)) old)))
         (λ new. inr (there_written key has.0 points new))
-        (set_touches (written points (cell_at key has.0)) (value_at (after core.start.points core.history) (cell_at key has.0)) (written_sets points (cell_at key has.0))
-        (λ none. has.1 (PartLemmas.value_more core.start.points core.history write (cell_at key has.0) ∙ none)))),
+        (set_touches (written points (cell_at key has.0)) (value_at (points_of core) (cell_at key has.0)) (written_sets points (cell_at key has.0))
+        (λ none. some_there (value_at (after core.start.points (core.history ++ write ∷ [])) (cell_at key has.0)) has.1 (PartLemmas.value_more core.start.points core.history write (cell_at key has.0) ∙ none)))),
   )
+    where
+      now_there : (time : ℤ) → (value_at (points_of core) (cell_at key time) ≢ None) ⊎ (written points (cell_at key time) ≢ None) → HasKey (held (after core.start.points (core.history ++ write ∷ []))) key
+      now_there time some = (
+        time,
+        there_some (value_at (after core.start.points (core.history ++ write ∷ [])) (cell_at key time))
+            (λ none. touches_set (written points (cell_at key time)) (value_at (points_of core) (cell_at key time)) (written_sets points (cell_at key time)) some
+            (sym (PartLemmas.value_more core.start.points core.history write (cell_at key time)) ∙ none)),
+      )
 
   pub write_keeps : Standing (with_write client points index core)
   write_keeps = record {
@@ -150,7 +162,7 @@ module _ (client : ℕ) (points : List Point) (index : Key → Bool) (core : Cor
   }
 
 module _ (client : ℕ) (deletion : Deletion) (index : Key → Bool) (core : Core) (inv : Standing core)
-    (left : (key : Key) → (index key ≡ true) ↔ ((core.index key ≡ true) × ((time : ℤ) × (overlay (contents_of (with_delete client deletion index core)) (cell_at key time) ≢ None)))) where
+    (left : (key : Key) → (index key ≡ true) ↔ ((core.index key ≡ true) × HasKey (overlay (contents_of (with_delete client deletion index core))) key)) where
   abbrev delete : Entry
   delete = Delete client deletion
 
@@ -162,8 +174,8 @@ module _ (client : ℕ) (deletion : Deletion) (index : Key → Bool) (core : Cor
       let f : Option Value = overlay (map now_of core.files) cell in
       PartLemmas.shown_is (map (cut_file deletion) core.files) (option_map (cut_snapshot deletion) core.snapshot) (without core.cache deletion) cell
       ∙ ap₂ (λ (a b : Option Value). option_or a b) (value_without core.cache deletion cell)
-      (ap₂ (λ (a b : Option Value). option_or a b) (PartLemmas.snapshot_cut deletion core.snapshot cell) (PartLemmas.files_cut deletion core.files cell) ∙ cut_or deleted s f)
-      ∙ cut_or deleted c (option_or s f)
+      (ap₂ (λ (a b : Option Value). option_or a b) (PartLemmas.snapshot_cut deletion core.snapshot cell) (PartLemmas.files_cut deletion core.files cell) ∙ spared_or deleted s f)
+      ∙ spared_or deleted c (option_or s f)
       ∙ ap (λ (o : Option Value). cond deleted None o) (sym (PartLemmas.shown_is core.files core.snapshot core.cache cell) ∙ inv.shows cell)
       ∙ deleted_value deleted (value_at (after core.start.points core.history) cell)
       ∙ sym (PartLemmas.value_more core.start.points core.history delete cell)
@@ -191,15 +203,15 @@ module _ (client : ℕ) (deletion : Deletion) (index : Key → Bool) (core : Cor
 
   delete_index : IsIndex (after core.start.points (core.history ++ delete ∷ [])) index
   delete_index key = (
-    λ is. let has = (let l = left key in l.0 is).1 in (has.0, λ none. has.1 (delete_shows (cell_at key has.0) ∙ none)),
+    λ is. let has = (let l = left key in l.0 is).1 in (has.0, subst IsSome (delete_shows (cell_at key has.0)) has.1),
     λ has. let l = left key in l.1 (
       let was = inv.index key in was.1 (
         has.0,
-        λ none. has.1
-            (PartLemmas.value_more core.start.points core.history delete (cell_at key has.0) ∙ sym (deleted_value (is_deleted deletion (cell_at key has.0)) (value_at (after core.start.points core.history) (cell_at key has.0)))
-            ∙ gone (is_deleted deletion (cell_at key has.0)) (value_at (after core.start.points core.history) (cell_at key has.0)) none),
+        there_some (value_at (points_of core) (cell_at key has.0)) (λ none. some_there (value_at (after core.start.points (core.history ++ delete ∷ [])) (cell_at key has.0)) has.1
+            (PartLemmas.value_more core.start.points core.history delete (cell_at key has.0) ∙ sym (deleted_value (is_deleted deletion (cell_at key has.0)) (value_at (points_of core) (cell_at key has.0)))
+            ∙ gone (is_deleted deletion (cell_at key has.0)) (value_at (points_of core) (cell_at key has.0)) none)),
       ),
-      (has.0, λ none. has.1 (sym (delete_shows (cell_at key has.0)) ∙ none)),
+      (has.0, subst IsSome (sym (delete_shows (cell_at key has.0))) has.1),
     ),
   )
     where

@@ -11,15 +11,15 @@ use Rattle.point_model.specs.Deletions.{is_deleted}
 use Rattle.point_model.specs.Histories.{after}
 use Rattle.point_model.specs.Cursors.{Key}
 use Rattle.point_model.specs.Points.{Points, no_points, value_at}
-use Rattle.shard_core.specs.Contents.{Content, overlay}
+use Rattle.point_model.proofs.EffectLemmas.{IsSet, effects-append, value_after, written_sets}
+use Rattle.point_model.specs.Contents.{Content, overlay}
+use Rattle.point_model.specs.Effects.{Effect, applied, effects, is_deleted_by, written}
 use Rattle.shard_core.specs.Crashes.{Images, MayLeave, Opens, opened, opened_file}
-use Rattle.shard_core.specs.Effects.{Effect, applied, effects, is_deleted_by, written}
 use Rattle.shard_core.specs.Images.{ImageStands, IsDirectory, image_value}
 use Rattle.shard_core.specs.Invariant.{IsIndex}
 use Rattle.shard_core.specs.Numbers.{Climbs, count, stored_names}
 use Rattle.shard_core.specs.Parts.{FileFollows, IfSnapshotIs, Parts}
 use Rattle.shard_core.specs.State.{Core, File, Image, Snapshot, Stored, content_in, contents_in, generation_in, generation_of, image_of, now_of, on_disk, snapshot_contents, stored_of}
-use Rattle.shard_core.proofs.ContentLemmas.{IsSet, effects-append, value_after, written_sets}
 use Rattle.shard_core.proofs.ListLemmas.{map_of_map}
 use Rattle.shard_core.proofs.MergeLaws.{overlay_hidden}
 use Rattle.shard_core.proofs.PartLemmas.{image_more, shown_is}

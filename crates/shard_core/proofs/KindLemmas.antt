@@ -4,11 +4,6 @@ use Rattle.std.specs.Prelude.{Contains, option_map}
 use Rattle.std.specs.Option.{option_or}
 use Rattle.std.specs.List.{AllByRecursion}
 use Rattle.std.proofs.lemmas.List.{map-append}
-use Rattle.std.specs.Cmp.Lexicographic.{pointwise, nat_list_eq_equiv, texts_ties}
-use Rattle.std.specs.Prelude.{nat_eq, ◌&&◌}
-use Rattle.std.proofs.lemmas.Bool.{false≢true}
-use Rattle.std.proofs.lemmas.Map.Lookups.{exact_bytes}
-use Rattle.std.proofs.lemmas.Map.Views.{tells_apart}
 use Rattle.tsdb_types.specs.declared.point.Cell.{Cell}
 use Rattle.tsdb_types.specs.declared.point.Point.{Point}
 use Rattle.tsdb_types.specs.declared.value.Value.{Value}
@@ -17,11 +12,14 @@ use Rattle.point_model.specs.declared.deletion.Deletion.{Deletion}
 use Rattle.point_model.specs.declared.entry.Entry.{Entry}
 use Rattle.point_model.specs.Deletions.{is_deleted, without}
 use Rattle.point_model.specs.Histories.{with_points}
-use Rattle.point_model.specs.Measurements.{is_same_field, measurement_head}
+use Rattle.point_model.specs.Measurements.{is_same_field}
 use Rattle.point_model.specs.Points.{Points, is_same_cell, no_points, value_at}
-use Rattle.shard_core.specs.Contents.{Content, held, overlay}
+use Rattle.point_model.proofs.EffectLemmas.{IsSet, value_after_write, value_without, written_sets}
+use Rattle.point_model.proofs.FieldLemmas.{same_field, same_field-sym}
+use Rattle.point_model.specs.Contents.{Content, overlay}
+use Rattle.point_model.specs.Effects.{Effect, applied, is_deleted_by, written}
+use Rattle.shard_core.specs.Contents.{held}
 use Rattle.shard_core.specs.DiskEvents.{Records, name_some}
-use Rattle.shard_core.specs.Effects.{Effect, applied, is_deleted_by, written}
 use Rattle.shard_core.specs.EntryEvents.{Deletes, Writes, cut_file, cut_snapshot}
 use Rattle.shard_core.specs.Invariant.{MergeStands}
 use Rattle.shard_core.specs.Kinds.{HasLive, KindsAgree, OneKind}
@@ -30,46 +28,9 @@ use Rattle.shard_core.specs.Parts.{FileFollows}
 use Rattle.shard_core.specs.SnapshotEvents.{BeginsSnapshot, EndsSnapshot, IsFileOf, file_of, name_all}
 use Rattle.shard_core.specs.State.{Core, File, Merge, Snapshot, contents_in, contents_of, now_of, on_disk, points_of, snapshot_contents}
 use Rattle.shard_core.specs.Taken.{Accepts}
-use Rattle.shard_core.proofs.ContentLemmas.{IsSet, value_after_write, value_without, written_sets}
 use Rattle.shard_core.proofs.EntryLaws.{cell_same}
 use Rattle.shard_core.proofs.ListLemmas.{all_left, all_right, placed_map}
 use Rattle.shard_core.proofs.Standing.{Standing}
-
-pub and_first : (a b : Bool) → (a && b) ≡ true → a ≡ true
-and_first true b e = refl
-and_first false b e = e
-
-pub and_second : (a b : Bool) → (a && b) ≡ true → b ≡ true
-and_second true b e = e
-and_second false b e = absurd (false≢true e)
-
-pub and_both : (a b : Bool) → a ≡ true → b ≡ true → (a && b) ≡ true
-and_both true b p q = q
-and_both false b p q = p
-
--- texts that are told equal are the same, and the other way round
-pub text_same : (a b : List ℕ) → pointwise nat_eq a b ≡ true → a ≡ b
-text_same a b e = tells_apart exact_bytes a b (sym (texts_ties a b) ∙ e)
-
-pub text_itself : (a b : List ℕ) → a ≡ b → pointwise nat_eq a b ≡ true
-text_itself a b e = subst (λ (t : List ℕ). pointwise nat_eq a t ≡ true) e (let laws = nat_list_eq_equiv in laws.refl a)
-
--- Two cells are of one field.
-pub record OneField (a b : Cell) : Type 0 where
-  pub measurement : measurement_head a.series ≡ measurement_head b.series
-  pub field : a.field ≡ b.field
-
-pub one_field : (a b : Cell) → IsTrue (is_same_field a b) → OneField a b
-one_field a b e = record {
-  measurement = text_same (measurement_head a.series) (measurement_head b.series) (and_first _ (pointwise nat_eq a.field b.field) e);
-  field = text_same a.field b.field (and_second (pointwise nat_eq (measurement_head a.series) (measurement_head b.series)) _ e);
-}
-
-pub same_field : (a b : Cell) → measurement_head a.series ≡ measurement_head b.series → a.field ≡ b.field → IsTrue (is_same_field a b)
-same_field a b m f = and_both _ _ (text_itself _ _ m) (text_itself a.field b.field f)
-
-pub same_field-sym : (a b : Cell) → IsTrue (is_same_field a b) → IsTrue (is_same_field b a)
-same_field-sym a b e = let o = one_field a b e in same_field b a (sym o.measurement) (sym o.field)
 
 -- each live cell of the first is one of the second
 abbrev pub Within : List Content → List Content → Type 0

@@ -1,4 +1,3 @@
-mod ContentLemmas
 mod ListLemmas
 mod Standing
 mod PartLemmas

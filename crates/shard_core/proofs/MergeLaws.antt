@@ -7,14 +7,14 @@ use Rattle.tsdb_types.specs.declared.point.Cell.{Cell}
 use Rattle.tsdb_types.specs.declared.value.Value.{Value}
 use Rattle.point_model.specs.declared.entry.Entry.{Entry}
 use Rattle.point_model.specs.Points.{Points, value_at}
-use Rattle.shard_core.specs.Contents.{Content, overlay}
-use Rattle.shard_core.specs.Effects.{is_deleted_by}
+use Rattle.point_model.proofs.EffectLemmas.{overlay-append}
+use Rattle.point_model.specs.Contents.{Content, overlay}
+use Rattle.point_model.specs.Effects.{is_deleted_by}
 use Rattle.shard_core.specs.Invariant.{MergeStands}
 use Rattle.shard_core.specs.MergeEvents.{EndsMerge, IsFileOfMerge, newest_generation}
 use Rattle.shard_core.specs.Numbers.{AreApart, Climbs, ShareNone, count, held_by_merges, names_of}
 use Rattle.shard_core.specs.Parts.{FileFollows}
 use Rattle.shard_core.specs.State.{Core, File, Merge, generation_of, now_of, number_of, snapshot_contents, source_numbers, tomb_of}
-use Rattle.shard_core.proofs.ContentLemmas.{overlay-append}
 use Rattle.shard_core.proofs.ListLemmas.{Without, all_append, all_left, all_right, apart_without, climbs_le, climbs_split, climbs_then, count-append, count_names, group_stays, held_without, names-append, newest_climbs, placed_map}
 use Rattle.shard_core.proofs.PartLemmas.{shown_is}
 use Rattle.shard_core.proofs.Standing.{Standing}

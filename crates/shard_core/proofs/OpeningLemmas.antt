@@ -10,15 +10,16 @@ use Rattle.point_model.specs.declared.entry.Entry.TheVariants.{Write, Delete}
 use Rattle.point_model.specs.Deletions.{is_deleted, without}
 use Rattle.point_model.specs.Histories.{State, after, with_points}
 use Rattle.point_model.specs.Points.{Points, no_points, value_at}
-use Rattle.shard_core.specs.Contents.{Content, held, overlay, spared}
+use Rattle.point_model.proofs.EffectLemmas.{deleted_value, overlay-append, overlay_spared, set_shows, spared_or, value_after_write, value_without, written_sets}
+use Rattle.point_model.specs.Contents.{Content, acted, overlay, spared}
+use Rattle.point_model.specs.Effects.{applied, effects, is_deleted_by, written}
+use Rattle.shard_core.specs.Contents.{held, left}
 use Rattle.shard_core.specs.Crashes.{Images, MayLeave, Opens, opened_file}
-use Rattle.shard_core.specs.Effects.{acted, applied, effects, is_deleted_by, left, written}
 use Rattle.shard_core.specs.EntryEvents.{image_with}
 use Rattle.shard_core.specs.Images.{ImageStands}
 use Rattle.shard_core.specs.Kinds.{HasLive, KindsAgree, OneKind}
 use Rattle.shard_core.specs.State.{Core, Image, Stored, content_in, now_of, on_disk}
-use Rattle.shard_core.specs.Taken.{DoubtsTaken, EntriesTaken, IsReadable, Takes, TakesEntry}
-use Rattle.shard_core.proofs.ContentLemmas.{cut_or, deleted_value, overlay-append, overlay_cut, set_shows, value_after_write, value_without, written_sets}
+use Rattle.shard_core.specs.Taken.{Admits, AdmitsAll, DoubtsTaken, EntriesTaken, IsReadable}
 use Rattle.shard_core.proofs.ImageLemmas.{each_stands}
 use Rattle.shard_core.proofs.KindLemmas.{Within, live_either, one_kind, within_both, within_itself, write_one}
 use Rattle.shard_core.proofs.ListLemmas.{map_of_map}
@@ -44,7 +45,7 @@ last_shows : (contents : List Content) (cache : Points) (cell : Cell) → overla
 last_shows contents cache cell = overlay-append contents (held cache ∷ []) cell
 
 write_acted : (contents : List Content) (cache : Points) (client : ℕ) (points : List Point) (cell : Cell)
-    → overlay (contents ++ held (with_points cache points) ∷ []) cell ≡ acted (overlay (contents ++ held cache ∷ [])) (Write client points) cell
+    → overlay (contents ++ held (with_points cache points) ∷ []) cell ≡ acted (Write client points) (overlay (contents ++ held cache ∷ [])) cell
 write_acted contents cache client points cell =
     last_shows contents (with_points cache points) cell
     ∙ ap (λ (o : Option Value). option_or o (overlay contents cell)) (value_after_write cache points cell)
@@ -52,29 +53,29 @@ write_acted contents cache client points cell =
     ∙ ap (λ (o : Option Value). applied (written points cell) o) (sym (last_shows contents cache cell))
 
 delete_acted : (contents : List Content) (cache : Points) (client : ℕ) (deletion : Deletion) (cell : Cell)
-    → overlay (map (spared deletion) contents ++ held (without cache deletion) ∷ []) cell ≡ acted (overlay (contents ++ held cache ∷ [])) (Delete client deletion) cell
+    → overlay (map (spared deletion) contents ++ held (without cache deletion) ∷ []) cell ≡ acted (Delete client deletion) (overlay (contents ++ held cache ∷ [])) cell
 delete_acted contents cache client deletion cell =
     last_shows (map (spared deletion) contents) (without cache deletion) cell
-    ∙ ap₂ (λ (a b : Option Value). option_or a b) (value_without cache deletion cell) (overlay_cut deletion contents cell)
-    ∙ cut_or (is_deleted deletion cell) (value_at cache cell) (overlay contents cell)
+    ∙ ap₂ (λ (a b : Option Value). option_or a b) (value_without cache deletion cell) (overlay_spared deletion contents cell)
+    ∙ spared_or (is_deleted deletion cell) (value_at cache cell) (overlay contents cell)
     ∙ ap (λ (o : Option Value). cond (is_deleted deletion cell) None o) (sym (last_shows contents cache cell))
     ∙ deleted_value (is_deleted deletion cell) (overlay (contents ++ held cache ∷ []) cell)
 
 -- entries that are taken leave one kind
-entries_one : (entries : List Entry) (contents : List Content) (cache : Points) → Takes (overlay (contents ++ held cache ∷ [])) entries → OneKind (contents ++ held cache ∷ [])
+entries_one : (entries : List Entry) (contents : List Content) (cache : Points) → AdmitsAll (overlay (contents ++ held cache ∷ [])) entries → OneKind (contents ++ held cache ∷ [])
     → OneKind (cut_by entries contents ++ held (after cache entries) ∷ [])
 unfolding cut_by
 entries_one [] contents cache takes kinds = kinds
 entries_one (Write client points ∷ entries) contents cache takes kinds =
     entries_one entries contents (with_points cache points)
-    (takes_below (overlay (contents ++ held (with_points cache points) ∷ [])) (acted (overlay (contents ++ held cache ∷ [])) (Write client points)) entries
-    (same_below (overlay (contents ++ held (with_points cache points) ∷ [])) (acted (overlay (contents ++ held cache ∷ [])) (Write client points)) (write_acted contents cache client points)) takes.1)
+    (takes_below (overlay (contents ++ held (with_points cache points) ∷ [])) (acted (Write client points) (overlay (contents ++ held cache ∷ []))) entries
+    (same_below (overlay (contents ++ held (with_points cache points) ∷ [])) (acted (Write client points) (overlay (contents ++ held cache ∷ []))) (write_acted contents cache client points)) takes.1)
     (write_one contents cache points takes.0 kinds)
 entries_one (Delete client deletion ∷ entries) contents cache takes kinds =
     let less = map (spared deletion) contents ++ held (without cache deletion) ∷ [] in
     entries_one entries (map (spared deletion) contents) (without cache deletion)
-    (takes_below (overlay less) (acted (overlay (contents ++ held cache ∷ [])) (Delete client deletion)) entries
-    (same_below (overlay less) (acted (overlay (contents ++ held cache ∷ [])) (Delete client deletion)) (delete_acted contents cache client deletion)) takes.1)
+    (takes_below (overlay less) (acted (Delete client deletion) (overlay (contents ++ held cache ∷ []))) entries
+    (same_below (overlay less) (acted (Delete client deletion) (overlay (contents ++ held cache ∷ []))) (delete_acted contents cache client deletion)) takes.1)
     (one_kind less (contents ++ held cache ∷ [])
     (within_both (map (spared deletion) contents) (held (without cache deletion) ∷ []) contents (held cache ∷ []) (within_cut deletion contents)
     (λ cell value has. ⊎_elim (λ is. inl (cut_some (is_deleted deletion cell) (value_at cache cell) value (sym (value_without cache deletion cell) ∙ is))) (λ none. absurd none) has))
@@ -142,19 +143,19 @@ opened_taken image core sound opens =
     subst EntriesTaken (sym opens.same)
     record {
       base = overlay (map content_in image.files);
-      takes = subst (Takes (overlay (map content_in image.files))) (sym entries) sound.takes;
+      takes = subst (AdmitsAll (overlay (map content_in image.files))) (sym entries) sound.takes;
       below = same_below (overlay (map on_disk (map (opened_file image.entries) image.files))) (overlay (map content_in image.files))
           (λ cell. ap (λ (ls : List Content). overlay ls cell) (map_of_map (opened_file image.entries) on_disk content_in (λ file. refl) image.files));
       leads = λ cell. ap (λ (es : List Entry). applied (effects es cell) (overlay (map content_in image.files) cell)) entries ∙ sym (opens.are cell);
     }
 
-pub sound_more : (start : State) (history : List Entry) (image : Image) (entry : Entry) → ImageStands start history image → IsReadable image → TakesEntry (λ cell. value_at (after start.points history) cell) entry
+pub sound_more : (start : State) (history : List Entry) (image : Image) (entry : Entry) → ImageStands start history image → IsReadable image → Admits (λ cell. value_at (after start.points history) cell) entry
     → IsReadable (image_with entry image)
 sound_more start history image entry stands sound takes = record {
   kinds = sound.kinds;
   takes = takes_more (overlay (map content_in image.files)) image.entries entry sound.takes
-      (takes_entry_below (left (overlay (map content_in image.files)) image.entries) (λ cell. value_at (after start.points history) cell) entry
-      (same_below (left (overlay (map content_in image.files)) image.entries) (λ cell. value_at (after start.points history) cell) stands.shows) takes);
+      (takes_entry_below (left image.entries (overlay (map content_in image.files))) (λ cell. value_at (after start.points history) cell) entry
+      (same_below (left image.entries (overlay (map content_in image.files))) (λ cell. value_at (after start.points history) cell) stands.shows) takes);
 }
 
 pub images_sound : (core : Core) → Standing core → KindsAgree core → EntriesTaken core → DoubtsTaken core → (more : List Entry) (image : Image) → MayLeave core more image → IsReadable image

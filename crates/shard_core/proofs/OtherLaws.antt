@@ -8,7 +8,8 @@ use Rattle.point_model.specs.declared.entry.Entry.{Entry}
 use Rattle.point_model.specs.Histories.{State}
 use Rattle.point_model.specs.Cursors.{Key}
 use Rattle.point_model.specs.Points.{no_points, value_at}
-use Rattle.shard_core.specs.Contents.{Content, held, overlay}
+use Rattle.point_model.specs.Contents.{Content, overlay}
+use Rattle.shard_core.specs.Contents.{held}
 use Rattle.shard_core.specs.Crashes.{Crashes}
 use Rattle.shard_core.specs.DiskEvents.{CompactsIndex, DoubtsEdit, Records, SettlesEdit, StoresChanges, StoresIndex, WouldMake, name_some, name_sources}
 use Rattle.shard_core.specs.EntryEvents.{DoubtsEntry, Settles}

@@ -12,14 +12,15 @@ use Rattle.point_model.specs.Deletions.{is_deleted}
 use Rattle.point_model.specs.Histories.{State, after}
 use Rattle.point_model.specs.Points.{Points, value_at}
 use Rattle.point_model.proofs.HistoryLemmas.{after-append}
-use Rattle.shard_core.specs.Contents.{Content, held, overlay, spared}
-use Rattle.shard_core.specs.Effects.{Effect, applied, effect, effects, is_deleted_by}
+use Rattle.point_model.proofs.EffectLemmas.{applied_or, effects-append, none_either_way, or_assoc, overlay-append, overlay_spared, value_after_entry}
+use Rattle.point_model.specs.Contents.{Content, overlay, spared}
+use Rattle.point_model.specs.Effects.{Effect, applied, effect, effects, is_deleted_by}
+use Rattle.shard_core.specs.Contents.{held}
 use Rattle.shard_core.specs.EntryEvents.{cut_file, cut_merge, cut_snapshot, image_with}
 use Rattle.shard_core.specs.Images.{ImageStands}
 use Rattle.shard_core.specs.Invariant.{MergeStands, ViewShows}
 use Rattle.shard_core.specs.Parts.{Follows, IfSnapshotIs}
 use Rattle.shard_core.specs.State.{File, Image, Merge, Snapshot, View, content_in, contents_in, now_of, snapshot_contents}
-use Rattle.shard_core.proofs.ContentLemmas.{applied_or, effects-append, none_either_way, or_assoc, overlay-append, overlay_cut, value_after_entry}
 use Rattle.shard_core.proofs.ListLemmas.{placed_map, some_map}
 
 pub shown_is : (files : List File) (snapshot : Option Snapshot) (cache : Points) (cell : Cell)
@@ -135,7 +136,7 @@ contents_cut deletion [] = refl
 contents_cut deletion (file ∷ files) = ap (λ (cs : List Content). spared deletion file.now ∷ cs) (contents_cut deletion files)
 
 pub files_cut : (deletion : Deletion) (files : List File) (cell : Cell) → overlay (map now_of (map (cut_file deletion) files)) cell ≡ cond (is_deleted deletion cell) None (overlay (map now_of files) cell)
-files_cut deletion files cell = ap (λ (ls : List Content). overlay ls cell) (contents_cut deletion files) ∙ overlay_cut deletion (map now_of files) cell
+files_cut deletion files cell = ap (λ (ls : List Content). overlay ls cell) (contents_cut deletion files) ∙ overlay_spared deletion (map now_of files) cell
 
 pub snapshot_cut : (deletion : Deletion) (snapshot : Option Snapshot) (cell : Cell)
     → overlay (snapshot_contents (option_map (cut_snapshot deletion) snapshot)) cell ≡ cond (is_deleted deletion cell) None (overlay (snapshot_contents snapshot) cell)

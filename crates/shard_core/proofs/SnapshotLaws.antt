@@ -1,9 +1,7 @@
 -- The end of a snapshot keeps the invariant.
-use Rattle.std.proofs.Common.{◌≡◌, ⊎_elim, ℕ, suc, ◌+◌, ◌≤◌, le_refl, arith, Bool, true, false, cond, ◌||◌, List, [], ◌∷◌, ◌++◌, map, length, length-append, ◌∙◌, ap, ap₂, sym, refl, subst, Option, Some, None, append_assoc}
+use Rattle.std.proofs.Common.{◌≡◌, ⊎_elim, ℕ, suc, ◌+◌, ◌≤◌, le_refl, arith, Bool, true, false, ◌||◌, List, [], ◌∷◌, ◌++◌, map, length, length-append, ◌∙◌, ap, ap₂, sym, refl, subst, Option, Some, None, append_assoc}
 use Rattle.std.specs.Option.{option_or}
 use Rattle.std.proofs.lemmas.Bool.{cases_Bool}
-use Rattle.std.specs.BTreeMap.{is_at}
-use Rattle.std.specs.Cmp.{eq_by_cmp_equiv}
 use Rattle.std.specs.List.{AllByRecursion}
 use Rattle.std.proofs.lemmas.List.{map-append}
 use Rattle.tsdb_types.specs.declared.point.Cell.{Cell}
@@ -11,16 +9,17 @@ use Rattle.tsdb_types.specs.declared.value.Value.{Value}
 use Rattle.point_model.specs.declared.entry.Entry.{Entry}
 use Rattle.point_model.specs.declared.entry.Entry.TheVariants.{Write, Delete}
 use Rattle.point_model.specs.Deletions.{is_deleted}
-use Rattle.point_model.specs.Points.{Points, cell_cmp, no_points, value_at}
-use Rattle.point_model.proofs.PointLemmas.{cell_total}
-use Rattle.shard_core.specs.Contents.{Content, held, overlay}
-use Rattle.shard_core.specs.Effects.{applied, effects, is_deleted_by}
+use Rattle.point_model.specs.Points.{Points, value_at}
+use Rattle.point_model.proofs.EffectLemmas.{overlay-append}
+use Rattle.point_model.proofs.StoredLemmas.{no_values}
+use Rattle.point_model.specs.Contents.{Content, overlay}
+use Rattle.point_model.specs.Effects.{applied, effects, is_deleted_by}
+use Rattle.shard_core.specs.Contents.{held}
 use Rattle.shard_core.specs.Invariant.{MergeStands, Shows}
 use Rattle.shard_core.specs.Numbers.{AreApart, Climbs, count, held_by_views}
 use Rattle.shard_core.specs.Parts.{FileFollows, Follows, IfSnapshotIs, SnapshotIs}
 use Rattle.shard_core.specs.SnapshotEvents.{EndsSnapshot, IsFileOf, Renames, name_all, name_merge, without_snapshot}
 use Rattle.shard_core.specs.State.{Core, File, Merge, Snapshot, generation_of, now_of, number_of, snapshot_contents, source_numbers}
-use Rattle.shard_core.proofs.ContentLemmas.{overlay-append}
 use Rattle.shard_core.proofs.ListLemmas.{all_append, all_over_map, climbs_then, count-append, held_same, placed_map, same_map, some_map}
 use Rattle.shard_core.proofs.PartLemmas.{shown_is}
 use Rattle.shard_core.proofs.Standing.{Standing}
@@ -33,15 +32,6 @@ deleted_later (Delete client deletion ∷ first) second cell e = either (is_dele
     either : (a b : Bool) → b ≡ true → (a || b) ≡ true
     either true b e = refl
     either false b e = e
-
--- points without a value at any cell are none
-pub no_values : (points : Points) → ((cell : Cell) → value_at points cell ≡ None) → points ≡ no_points
-no_values [] none = refl
-no_values (point ∷ points) none = absurd (found (is_at (cell_cmp point.0) point.0) (let laws = eq_by_cmp_equiv cell_total in laws.refl point.0) (none point.0))
-  where
-    found : (b : Bool) → b ≡ true → cond b (Some point.1) (value_at points point.0) ≡ None → ⊥
-    found true e none = cc
-    found false e none = cc
 
 some_first : (floor number : ℕ) (first : List Entry) → number ≡ floor + length first → (first ≡ [] → ⊥) → suc floor ≤ number
 some_first floor number [] e some = absurd (some refl)

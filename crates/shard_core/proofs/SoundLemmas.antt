@@ -10,61 +10,63 @@ use Rattle.point_model.specs.declared.entry.Entry.{Entry}
 use Rattle.point_model.specs.declared.entry.Entry.TheVariants.{Write, Delete}
 use Rattle.point_model.specs.Histories.{after}
 use Rattle.point_model.specs.Points.{value_at}
-use Rattle.shard_core.specs.Contents.{Content, held, overlay}
+use Rattle.point_model.proofs.EffectLemmas.{applied_or, effects-append}
+use Rattle.point_model.proofs.FieldLemmas.{same_field}
+use Rattle.point_model.specs.Contents.{Content, acted, overlay}
+use Rattle.point_model.specs.Effects.{Effect, applied, effect, effects, is_deleted_by}
+use Rattle.shard_core.specs.Contents.{held, left}
 use Rattle.shard_core.specs.DiskEvents.{Records, name_some}
-use Rattle.shard_core.specs.Effects.{Effect, acted, applied, effect, effects, is_deleted_by, left}
 use Rattle.shard_core.specs.EntryEvents.{Deletes, Writes}
 use Rattle.shard_core.specs.Kinds.{HasLive, KindsAgree, OneKind}
 use Rattle.shard_core.specs.MergeEvents.{EndsMerge}
 use Rattle.shard_core.specs.Parts.{FileFollows, IfSnapshotIs, Parts, SnapshotIs}
 use Rattle.shard_core.specs.SnapshotEvents.{EndsSnapshot, IsFileOf, name_all, without_snapshot}
 use Rattle.shard_core.specs.State.{Core, File, Snapshot, content_in, image_of, now_of, on_disk, points_of, snapshot_contents, stored_of}
-use Rattle.shard_core.specs.Taken.{Accepts, Below, EntriesTaken, IsReadable, Takes, TakesEntry}
-use Rattle.shard_core.proofs.ContentLemmas.{applied_or, effects-append}
+use Rattle.shard_core.specs.Taken.{Accepts, Admits, AdmitsAll, Below, EntriesTaken, IsReadable}
 use Rattle.shard_core.proofs.ImageLemmas.{deleted-append, ends_deleted, entries_are}
-use Rattle.shard_core.proofs.KindLemmas.{Within, disk_all, disk_cut, live_either, live_left, live_right, live_shows, made_within, merge_disk_within, overlay_live, same_field, within_disk, within_named}
+use Rattle.shard_core.proofs.KindLemmas.{Within, disk_all, disk_cut, live_either, live_left, live_right, live_shows, made_within, merge_disk_within, overlay_live, within_disk, within_named}
 use Rattle.shard_core.proofs.ListLemmas.{map_of_map}
 use Rattle.shard_core.proofs.PartLemmas.{effects_more, value_more}
 use Rattle.shard_core.proofs.Standing.{Standing}
 
-acted_below : (first second : Content) (entry : Entry) → Below first second → Below (acted first entry) (acted second entry)
+acted_below : (first second : Content) (entry : Entry) → Below first second → Below (acted entry first) (acted entry second)
 acted_below first second entry below cell value e = by (effect entry cell) e
   where
     by : (o : Effect) → applied o (first cell) ≡ Some value → (other : Value) × (applied o (second cell) ≡ Some other) × (kind_of other ≡ kind_of value)
     by None e = below cell value e
     by (Some o) e = (value, e, refl)
 
-pub takes_entry_below : (first second : Content) (entry : Entry) → Below first second → TakesEntry second entry → TakesEntry first entry
+pub takes_entry_below : (first second : Content) (entry : Entry) → Below first second → Admits second entry → Admits first entry
 takes_entry_below first second (Write client points) below takes = record {
   accepted = λ cell value e point among same. let other = below cell value e in sym other.2 ∙ takes.accepted cell other.0 other.1 point among same;
   one_kind = takes.one_kind;
 }
 takes_entry_below first second (Delete client deletion) below takes = tt
 
-pub takes_below : (first second : Content) (entries : List Entry) → Below first second → Takes second entries → Takes first entries
+pub takes_below : (first second : Content) (entries : List Entry) → Below first second → AdmitsAll second entries → AdmitsAll first entries
 takes_below first second [] below takes = tt
 takes_below first second (entry ∷ entries) below takes =
-    (takes_entry_below first second entry below takes.0, takes_below (acted first entry) (acted second entry) entries (acted_below first second entry below) takes.1)
+    (takes_entry_below first second entry below takes.0, takes_below (acted entry first) (acted entry second) entries (acted_below first second entry below) takes.1)
 
-left_first : (content : Content) (entry : Entry) (entries : List Entry) (cell : Cell) → left content (entry ∷ entries) cell ≡ left (acted content entry) entries cell
+left_first : (content : Content) (entry : Entry) (entries : List Entry) (cell : Cell) → left (entry ∷ entries) content cell ≡ left entries (acted entry content) cell
 left_first content entry entries cell = applied_or (effect entry cell) (effects entries cell) (content cell)
 
 pub same_below : (first second : Content) → ((cell : Cell) → first cell ≡ second cell) → Below first second
 same_below first second same cell value e = (value, sym (same cell) ∙ e, refl)
 
-pub takes_more : (content : Content) (entries : List Entry) (entry : Entry) → Takes content entries → TakesEntry (left content entries) entry → Takes content (entries ++ entry ∷ [])
+pub takes_more : (content : Content) (entries : List Entry) (entry : Entry) → AdmitsAll content entries → Admits (left entries content) entry → AdmitsAll content (entries ++ entry ∷ [])
 takes_more content [] entry takes last = (last, tt)
 takes_more content (first ∷ entries) entry takes last = (
   takes.0,
-  takes_more (acted content first) entries entry takes.1
-      (takes_entry_below (left (acted content first) entries) (left content (first ∷ entries)) entry (same_below (left (acted content first) entries) (left content (first ∷ entries)) (λ cell. sym (left_first content first entries cell))) last),
+  takes_more (acted first content) entries entry takes.1
+      (takes_entry_below (left entries (acted first content)) (left (first ∷ entries) content) entry (same_below (left entries (acted first content)) (left (first ∷ entries) content) (λ cell. sym (left_first content first entries cell))) last),
 )
 
-pub takes_later : (content : Content) (first second : List Entry) → Takes content (first ++ second) → Takes (left content first) second
+pub takes_later : (content : Content) (first second : List Entry) → AdmitsAll content (first ++ second) → AdmitsAll (left first content) second
 takes_later content [] second takes = takes
 takes_later content (entry ∷ first) second takes =
-    takes_below (left content (entry ∷ first)) (left (acted content entry) first) second (same_below (left content (entry ∷ first)) (left (acted content entry) first) (left_first content entry first))
-    (takes_later (acted content entry) first second takes.1)
+    takes_below (left (entry ∷ first) content) (left first (acted entry content)) second (same_below (left (entry ∷ first) content) (left first (acted entry content)) (left_first content entry first))
+    (takes_later (acted entry content) first second takes.1)
 
 -- an entry more in the image
 entries_more : (core : Core) → Standing core → (entry : Entry) → drop (core.floor - core.origin) (core.past ++ (core.history ++ entry ∷ [])) ≡ (image_of core).entries ++ entry ∷ []
@@ -85,12 +87,12 @@ leads_more core inv taken entry cell =
     ∙ ap (λ (o : Option Value). applied (effect entry cell) o) (taken.leads cell)
     ∙ sym (value_more core.start.points core.history entry cell)
 
-takes_with : (core : Core) → Standing core → (taken : EntriesTaken core) (entry : Entry) → TakesEntry (λ cell. value_at (after core.start.points core.history) cell) entry
-    → Takes taken.base (drop (core.floor - core.origin) (core.past ++ (core.history ++ entry ∷ [])))
+takes_with : (core : Core) → Standing core → (taken : EntriesTaken core) (entry : Entry) → Admits (λ cell. value_at (after core.start.points core.history) cell) entry
+    → AdmitsAll taken.base (drop (core.floor - core.origin) (core.past ++ (core.history ++ entry ∷ [])))
 takes_with core inv taken entry takes =
-    subst (Takes taken.base) (sym (entries_more core inv entry))
+    subst (AdmitsAll taken.base) (sym (entries_more core inv entry))
     (takes_more taken.base (image_of core).entries entry taken.takes
-    (takes_entry_below (left taken.base (image_of core).entries) (λ cell. value_at (after core.start.points core.history) cell) entry (same_below (left taken.base (image_of core).entries) (λ cell. value_at (after core.start.points core.history) cell) taken.leads) takes))
+    (takes_entry_below (left (image_of core).entries taken.base) (λ cell. value_at (after core.start.points core.history) cell) entry (same_below (left (image_of core).entries taken.base) (λ cell. value_at (after core.start.points core.history) cell) taken.leads) takes))
 
 pub write_taken : (old new : Core) → (writes : Writes old new) → Accepts (held (points_of old)) writes.points → Standing old → EntriesTaken old → EntriesTaken new
 write_taken old new writes accepts inv taken =
@@ -181,7 +183,7 @@ module _ (old : Core) (inv : Standing old) (kinds : KindsAgree old) (taken : Ent
   kinds_now = subst (λ (s : Option Snapshot). OneKind (map now_of old.files ++ (snapshot_contents s ++ held old.cache ∷ []))) out kinds.now
 
   abbrev base_now : Content
-  base_now = left taken.base parts.first
+  base_now = left parts.first taken.base
 
   -- a snapshot's live cell is what the first entries leave
   snapshot_live : (cell : Cell) → is_deleted_by parts.second cell ≡ false → snapshot.now cell ≡ applied (effects parts.first cell) None
@@ -231,7 +233,7 @@ module _ (old : Core) (inv : Standing old) (kinds : KindsAgree old) (taken : Ent
   pub snapshot_taken : (made : List File) → IsFileOf snapshot made → (tombs : File → Option ℕ) (replaced : List ℕ) → EntriesTaken (without_snapshot snapshot made tombs replaced old)
   snapshot_taken made is_made tombs replaced = record {
     base = base_now;
-    takes = subst (Takes base_now) (sym entries_now) (takes_later taken.base parts.first parts.second (subst (Takes taken.base) (entries_are old inv) taken.takes));
+    takes = subst (AdmitsAll base_now) (sym entries_now) (takes_later taken.base parts.first parts.second (subst (AdmitsAll taken.base) (entries_are old inv) taken.takes));
     below = λ cell value e.
         let ls = map on_disk (map (name_all tombs) old.files ++ made) in
         let has = subst (λ (l : List Content). HasLive l cell value) (map-append on_disk (map (name_all tombs) old.files) made ∙ ap (λ (l : List Content). l ++ map on_disk made) (disk_all tombs old.files))
@@ -255,6 +257,6 @@ image_sound core kinds taken =
     let same = map_of_map stored_of content_in on_disk (λ file. refl) core.files in
     record {
       kinds = subst OneKind (sym same) kinds.disk;
-      takes = subst (λ (cs : List Content). Takes (overlay cs) (image_of core).entries) (sym same)
+      takes = subst (λ (cs : List Content). AdmitsAll (overlay cs) (image_of core).entries) (sym same)
           (takes_below (overlay (map on_disk core.files)) taken.base (image_of core).entries taken.below taken.takes);
     }

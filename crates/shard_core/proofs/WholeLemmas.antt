@@ -6,13 +6,12 @@ use Rattle.point_model.specs.declared.entry.Entry.TheVariants.{Write, Delete}
 use Rattle.point_model.specs.Histories.{State, after}
 use Rattle.std.specs.Prelude.{filter, not, Bool, true, false}
 use Rattle.point_model.specs.Cursors.{Key}
-use Rattle.point_model.specs.Points.{Points}
 use Rattle.shard_core.specs.Contents.{held}
 use Rattle.shard_core.specs.Crashes.{Crashes, MayLeave, Opens}
 use Rattle.shard_core.specs.DiskEvents.{CompactsIndex, DoubtsEdit, Records, SettlesEdit, WouldMake}
 use Rattle.shard_core.specs.EntryEvents.{Deletes, DoubtsEntry, Settles, Writes, image_with}
-use Rattle.shard_core.specs.Events.{Event}
 use Rattle.shard_core.specs.Events as event
+use Rattle.shard_core.specs.Events.{Event}
 use Rattle.shard_core.specs.Images.{ImageStands, IsDirectory}
 use Rattle.shard_core.specs.Invariant.{Invariant}
 use Rattle.shard_core.specs.Kinds.{KindsAgree, OneKind}
@@ -21,9 +20,9 @@ use Rattle.shard_core.specs.MergeEvents.{EndsMerge}
 use Rattle.shard_core.specs.Numbers.{count}
 use Rattle.shard_core.specs.SnapshotEvents.{AbandonsSnapshot, BeginsSnapshot, EndsSnapshot}
 use Rattle.shard_core.specs.State.{Core, Image, Merge, Snapshot, View, image_of, now_of, points_of, snapshot_contents, source_numbers}
-use Rattle.shard_core.specs.Taken.{DoubtsTaken, EntriesTaken, IsReadable, MayFollow, TakesEntry}
+use Rattle.shard_core.specs.Taken.{Admits, DoubtsTaken, EntriesTaken, IsReadable}
 use Rattle.shard_core.specs.ViewEvents.{is_gone, view_of}
-use Rattle.shard_core.proofs.AcceptanceLemmas.{accepts}
+use Rattle.shard_core.proofs.AcceptanceLemmas.{admitted}
 use Rattle.shard_core.proofs.EntryLaws.{deletes_keeps, writes_keeps}
 use Rattle.shard_core.proofs.ImageLemmas.{images_stand, opens_keeps}
 use Rattle.shard_core.proofs.KindLemmas.{delete_kinds, end_merge_kinds, end_snapshot_kinds, record_kinds, snapshot_kinds, write_kinds}
@@ -43,7 +42,7 @@ pub record Rest (core : Core) : Type 0 where
 no_image : (image : Image) → None ≡ Some image → IsReadable image
 no_image image e = absurd (cc)
 
-no_entry : (core : Core) (entry : Entry) → None ≡ Some entry → TakesEntry (held (points_of core)) entry
+no_entry : (core : Core) (entry : Entry) → None ≡ Some entry → Admits (held (points_of core)) entry
 no_entry core entry e = absurd (cc)
 
 same_image : (made image : Image) → Some made ≡ Some image → made ≡ image
@@ -53,7 +52,7 @@ same_entry : (made entry : Entry) → Some made ≡ Some entry → made ≡ entr
 same_entry made entry e = cc
 
 -- an edit's image with an entry more
-edit_more : (core : Core) (entry : Entry) → TakesEntry (held (points_of core)) entry → (edit : Option Image) → ((image : Image) → edit ≡ Some image → ImageStands core.start core.history image × IsReadable image)
+edit_more : (core : Core) (entry : Entry) → Admits (held (points_of core)) entry → (edit : Option Image) → ((image : Image) → edit ≡ Some image → ImageStands core.start core.history image × IsReadable image)
     → (image : Image) → option_map (image_with entry) edit ≡ Some image → IsReadable image
 edit_more core entry takes None each image e = absurd (cc)
 edit_more core entry takes (Some before) each image e =
@@ -74,7 +73,7 @@ rest_with core merges views condemned holds stored rest =
     }
 
 rest_doubts : (core : Core) (doubt : Option Entry) (edit : Option Image) → ((image : Image) → edit ≡ Some image → IsReadable image)
-    → ((entry : Entry) → doubt ≡ Some entry → TakesEntry (held (points_of core)) entry) → Rest core → Rest record core { doubt = doubt; edit = edit }
+    → ((entry : Entry) → doubt ≡ Some entry → Admits (held (points_of core)) entry) → Rest core → Rest record core { doubt = doubt; edit = edit }
 rest_doubts core doubt edit image entry rest =
     let kinds = rest.kinds in
     let taken = rest.taken in
@@ -96,11 +95,6 @@ rest_job core snapshot out stands rest =
       doubts = record { edit = doubts.edit; entry = doubts.entry };
     }
 
--- an entry that may follow is taken
-follows_taken : (points : Points) (entry : Entry) → MayFollow points entry → TakesEntry (held points) entry
-follows_taken points (Write client batch) may = accepts points batch may.0 may.1
-follows_taken points (Delete client deletion) may = tt
-
 edit_stands : (core : Core) → Standing core → Rest core → (image : Image) → core.edit ≡ Some image → ImageStands core.start core.history image × IsReadable image
 edit_stands core inv rest image e =
     let doubts = rest.doubts in
@@ -108,7 +102,7 @@ edit_stands core inv rest image e =
 
 write_rest : (old new : Core) → Writes old new → Standing old → Rest old → Rest new
 write_rest old new writes inv rest =
-    let taken = accepts (points_of old) writes.points (let m = writes.may in m.0) (let m = writes.may in m.1) in
+    let taken = admitted (points_of old) (Write writes.client writes.points) writes.may in
     record {
       kinds = write_kinds old new writes taken inv rest.kinds;
       taken = write_taken old new writes taken inv rest.taken;
@@ -136,8 +130,8 @@ ended_doubts old new made same edit doubt start history doubts =
     subst DoubtsTaken (sym same)
     record {
       edit = λ image s. no_image image (sym edit ∙ s);
-      entry = λ entry s. subst (λ (st : State). TakesEntry (held (after st.points made.history)) entry) (sym start)
-          (subst (λ (h : List Entry). TakesEntry (held (after old.start.points h)) entry) (sym history) (doubts.entry entry (sym doubt ∙ s)));
+      entry = λ entry s. subst (λ (st : State). Admits (held (after st.points made.history)) entry) (sym start)
+          (subst (λ (h : List Entry). Admits (held (after old.start.points h)) entry) (sym history) (doubts.entry entry (sym doubt ∙ s)));
     }
 
 would_sound : (old would : Core) → WouldMake old would → Standing old → Rest old → IsReadable (image_of would)
@@ -198,7 +192,7 @@ doubt_rest old new e rest =
     let doubts = rest.doubts in
     subst Rest (sym e.same)
     (rest_doubts old (Some e.entry) old.edit doubts.edit
-    (λ entry s. subst (λ (x : Entry). TakesEntry (held (points_of old)) x) (same_entry e.entry entry s) (follows_taken (points_of old) e.entry e.may)) rest)
+    (λ entry s. subst (λ (x : Entry). Admits (held (points_of old)) x) (same_entry e.entry entry s) (admitted (points_of old) e.entry e.may)) rest)
 
 settle_rest : (old new : Core) → Settles old new → Rest old → Rest new
 settle_rest old new e rest =

@@ -5,7 +5,7 @@ use Rattle.point_model.specs.declared.entry.Entry.{Entry}
 use Rattle.point_model.specs.Histories.{after}
 use Rattle.point_model.specs.Cursors.{Key}
 use Rattle.point_model.specs.Points.{Points, no_points, value_at}
-use Rattle.shard_core.specs.Effects.{is_deleted_by}
+use Rattle.point_model.specs.Effects.{is_deleted_by}
 use Rattle.shard_core.specs.EntryEvents.{image_with}
 use Rattle.shard_core.specs.Images.{image_value}
 use Rattle.shard_core.specs.Invariant.{IsIndex}

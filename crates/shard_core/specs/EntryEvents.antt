@@ -1,15 +1,15 @@
 -- What does an accepted entry make of the state, and one that may be in the log?
-use Rattle.std.specs.Prelude.{◌≡◌, ◌≢◌, ◌⊎◌, ◌↔◌, ℤ, ℕ, Bool, true, List, [], ◌∷◌, ◌++◌, map, Some, None, option_map}
+use Rattle.std.specs.Prelude.{◌≡◌, ◌⊎◌, ◌↔◌, ℕ, Bool, true, List, [], ◌∷◌, ◌++◌, map, Some, None, option_map}
 use Rattle.tsdb_types.specs.declared.point.Point.{Point}
 use Rattle.point_model.specs.declared.deletion.Deletion.{Deletion}
 use Rattle.point_model.specs.declared.entry.Entry.{Entry}
 use Rattle.point_model.specs.declared.entry.Entry.TheVariants.{Write, Delete}
+use Rattle.point_model.specs.Acceptance.{Takes}
 use Rattle.point_model.specs.Deletions.{without}
 use Rattle.point_model.specs.Histories.{with_points}
-use Rattle.point_model.specs.Cursors.{Key, cell_at}
-use Rattle.shard_core.specs.Contents.{overlay, spared}
+use Rattle.point_model.specs.Cursors.{HasKey, Key}
+use Rattle.point_model.specs.Contents.{overlay, spared}
 use Rattle.shard_core.specs.State.{Core, File, Image, Merge, Snapshot, contents_of, points_of}
-use Rattle.shard_core.specs.Taken.{MayFollow}
 
 -- the directory with an entry more in its log
 abbrev pub image_with : Entry → Image → Image
@@ -38,7 +38,7 @@ HasOfKey key (point ∷ points) = (key_of_point point ≡ key) ⊎ HasOfKey key 
 pub record Writes (old new : Core) : Type 0 where
   pub client : ℕ
   pub points : List Point
-  pub may : MayFollow (points_of old) (Write client points)
+  pub may : Takes (points_of old) (Write client points)
   pub index : Key → Bool
   pub added : (key : Key) → (index key ≡ true) ↔ ((old.index key ≡ true) ⊎ HasOfKey key points)
   pub same : new ≡ with_write client points index old
@@ -73,14 +73,14 @@ pub record Deletes (old new : Core) : Type 0 where
   pub client : ℕ
   pub deletion : Deletion
   pub index : Key → Bool
-  pub left : (key : Key) → (index key ≡ true) ↔ ((old.index key ≡ true)
-      × ((time : ℤ) × (overlay (contents_of (with_delete client deletion index old)) (cell_at key time) ≢ None)))
+  pub left : (key : Key) → (index key ≡ true)
+      ↔ ((old.index key ≡ true) × HasKey (overlay (contents_of (with_delete client deletion index old))) key)
   pub same : new ≡ with_delete client deletion index old
 
 -- an entry that the points take may be in the log, or not
 pub record DoubtsEntry (old new : Core) : Type 0 where
   pub entry : Entry
-  pub may : MayFollow (points_of old) entry
+  pub may : Takes (points_of old) entry
   pub same : new ≡ record old { doubt = Some entry }
 
 -- no entry is in doubt

@@ -5,14 +5,14 @@ use Rattle.tsdb_types.specs.declared.value.Value.{Value}
 use Rattle.point_model.specs.declared.entry.Entry.{Entry}
 use Rattle.point_model.specs.Histories.{State, after}
 use Rattle.point_model.specs.Points.{value_at}
-use Rattle.shard_core.specs.Contents.{overlay}
-use Rattle.shard_core.specs.Effects.{left}
+use Rattle.point_model.specs.Contents.{overlay}
+use Rattle.shard_core.specs.Contents.{left}
 use Rattle.shard_core.specs.Numbers.{Climbs, count, stored_names}
 use Rattle.shard_core.specs.State.{Image, content_in, generation_in}
 
 -- what the entries of its log leave on the overlay of its files
 abbrev pub image_value : Image → Cell → Option Value
-image_value image cell = left (overlay (map content_in image.files)) image.entries cell
+image_value image cell = left image.entries (overlay (map content_in image.files)) cell
 
 -- Generations ascend and don't pass the floor, and no number is named twice.
 pub record IsDirectory (image : Image) : Type 0 where

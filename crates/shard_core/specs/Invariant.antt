@@ -1,12 +1,13 @@
 -- What holds of the engine's state at any time?
-use Rattle.std.specs.Prelude.{◌≡◌, ◌≢◌, ◌↔◌, ℤ, ℕ, suc, ◌+◌, ◌<◌, ◌≤◌, Bool, true, List, [], ◌++◌, map, length, None, IfSome}
+use Rattle.std.specs.Prelude.{◌≡◌, ◌≢◌, ◌↔◌, ℕ, suc, ◌+◌, ◌<◌, ◌≤◌, Bool, true, List, [], ◌++◌, map, length, None, IfSome}
 use Rattle.std.specs.List.{AllByRecursion}
 use Rattle.tsdb_types.specs.declared.point.Cell.{Cell}
 use Rattle.point_model.specs.declared.entry.Entry.{Entry}
 use Rattle.point_model.specs.Histories.{State, after}
-use Rattle.point_model.specs.Cursors.{Key, cell_at}
+use Rattle.point_model.specs.Cursors.{HasKey, Key}
 use Rattle.point_model.specs.Points.{Points, value_at}
-use Rattle.shard_core.specs.Contents.{overlay}
+use Rattle.point_model.specs.Contents.{overlay}
+use Rattle.shard_core.specs.Contents.{held}
 use Rattle.shard_core.specs.Images.{ImageStands}
 use Rattle.shard_core.specs.Kinds.{KindsAgree}
 use Rattle.shard_core.specs.Numbers.{AreApart, Climbs, count, held_by_merges, held_by_views, named}
@@ -56,13 +57,9 @@ NamedOnce core = (n : ℕ) → named core n ≤ 1
 abbrev pub EditStands : Core → Type 0
 EditStands core = IfSome core.edit (ImageStands core.start core.history)
 
--- the points have one of this key
-abbrev pub HasKey : Points → Key → Type 0
-HasKey points key = (time : ℤ) × (value_at points (cell_at key time) ≢ None)
-
 -- the index has exactly the keys of the points
 abbrev pub IsIndex : Points → (Key → Bool) → Type 0
-IsIndex points index = (key : Key) → (index key ≡ true) ↔ HasKey points key
+IsIndex points index = (key : Key) → (index key ≡ true) ↔ HasKey (held points) key
 
 -- Memory shows the points after the history; views, merges and the directory stand for what they should; files are named once,
 -- held as counted and there while they are held; and whatever a crash leaves can be read again.

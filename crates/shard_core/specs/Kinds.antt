@@ -4,7 +4,7 @@ use Rattle.tsdb_types.specs.declared.point.Cell.{Cell}
 use Rattle.tsdb_types.specs.declared.value.Value.{Value}
 use Rattle.tsdb_types.specs.Values.{kind_of}
 use Rattle.point_model.specs.Measurements.{is_same_field}
-use Rattle.shard_core.specs.Contents.{Content}
+use Rattle.point_model.specs.Contents.{Content}
 use Rattle.shard_core.specs.State.{Core, contents_of, on_disk}
 
 -- one of the contents has the cell with this value, hidden by a newer one or not

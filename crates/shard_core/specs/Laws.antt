@@ -1,6 +1,5 @@
--- Laws of contents, of events and of what crashes leave.
-use Rattle.std.specs.Prelude.{◌≡◌, ◌||◌, ℕ, List, [], ◌∷◌, ◌++◌, map, Some, Bool}
-use Rattle.std.specs.Option.{option_or}
+-- Laws of events and of what crashes leave.
+use Rattle.std.specs.Prelude.{◌≡◌, ◌||◌, ℕ, List, [], ◌∷◌, ◌++◌, Some, Bool}
 use Rattle.std.specs.List.{AllByRecursion}
 use Rattle.std.specs.List.Sorted.{IsStrictlySortedBy}
 use Rattle.std.specs.Map.{keys_of}
@@ -8,12 +7,11 @@ use Rattle.tsdb_types.specs.declared.point.Cell.{Cell}
 use Rattle.tsdb_types.specs.declared.point.Point.{Point}
 use Rattle.point_model.specs.declared.deletion.Deletion.{Deletion}
 use Rattle.point_model.specs.declared.entry.Entry.{Entry}
-use Rattle.point_model.specs.Acceptance.{IsAccepted, IsWritable}
+use Rattle.point_model.specs.Acceptance.{IsAccepted, Takes}
 use Rattle.point_model.specs.Deletions.{is_deleted}
-use Rattle.point_model.specs.Histories.{after}
-use Rattle.point_model.specs.Points.{Points, cell_cmp, value_at}
-use Rattle.shard_core.specs.Contents.{Content, held, live, overlay, spared}
-use Rattle.shard_core.specs.Effects.{left}
+use Rattle.point_model.specs.Points.{Points, cell_cmp}
+use Rattle.point_model.specs.Contents.{live, spared}
+use Rattle.shard_core.specs.Contents.{held}
 use Rattle.shard_core.specs.Crashes.{Crashes, MayLeave, Opens}
 use Rattle.shard_core.specs.DiskEvents.{CompactsIndex, DoubtsEdit, Records, SettlesEdit, StoresChanges, StoresIndex}
 use Rattle.shard_core.specs.EntryEvents.{Deletes, DoubtsEntry, Settles, Writes}
@@ -24,25 +22,15 @@ use Rattle.shard_core.specs.MergeEvents.{AbandonsMerge, BeginsMerge, EndsMerge}
 use Rattle.shard_core.specs.Numbers.{named}
 use Rattle.shard_core.specs.SnapshotEvents.{AbandonsSnapshot, BeginsSnapshot, EndsSnapshot}
 use Rattle.shard_core.specs.State.{Core, Image, Merge, Snapshot}
-use Rattle.shard_core.specs.Taken.{Accepts, IsReadable}
+use Rattle.shard_core.specs.Taken.{Accepts, Admits, IsReadable}
 use Rattle.shard_core.specs.ViewEvents.{BeginsView, EndsView, Purges}
 
--- Newer contents show first. Contents one behind the other may give place to others that show the same. A deletion takes of what
--- contents show what it takes of each; of a layer it takes the cells that its tombstone would cover.
-pub record ContentsShow : Type 0 where
-  pub append : (older newer : List Content) (cell : Cell) → overlay (older ++ newer) cell ≡ option_or (overlay newer cell) (overlay older cell)
-  pub replaced : (before group made behind : List Content) (cell : Cell) → overlay group cell ≡ overlay made cell
-      → overlay (before ++ group ++ behind) cell ≡ overlay (before ++ made ++ behind) cell
-  pub cut : (deletion : Deletion) (contents : List Content) (cell : Cell)
-      → overlay (map (spared deletion) contents) cell ≡ spared deletion (overlay contents) cell
+-- What the fields of a shard give of contents: a layer with one tombstone more is spared by the deletion; an entry that the points
+-- take is admitted by what they have, and a batch that is accepted by its values is accepted by the points.
+pub record FieldsGiveContents : Type 0 where
   pub covered : (deletion : Deletion) (points : Points) (covers : Cell → Bool) (cell : Cell)
       → live points (λ c. covers c || is_deleted deletion c) cell ≡ spared deletion (live points covers) cell
-
--- A history does to each cell what its last entry that touches it does. Points accept a batch exactly where it has the kinds that
--- they have.
-pub record HistoriesAct : Type 0 where
-  pub acts : (points : Points) (history : List Entry) (cell : Cell) → value_at (after points history) cell ≡ left (held points) history cell
-  pub accepts : (points : Points) (batch : List Point) → IsAccepted points batch → IsWritable batch → Accepts (held points) batch
+  pub admits : (points : Points) (entry : Entry) → Takes points entry → Admits (held points) entry
   pub accepted : (points : Points) (batch : List Point) → IsStrictlySortedBy cell_cmp (keys_of points) → Accepts (held points) batch → IsAccepted points batch
 
 -- Each event keeps what holds of the state.

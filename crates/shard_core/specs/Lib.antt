@@ -1,7 +1,6 @@
 pub mod Contents
 pub mod Crashes
 pub mod DiskEvents
-pub mod Effects
 pub mod EntryEvents
 pub mod Events
 pub mod Images

@@ -3,7 +3,7 @@ use Rattle.std.specs.Prelude.{◌≡◌, ◌≢◌, ◌⊎◌, ℕ, ◌+◌, ◌
 use Rattle.std.specs.List.{AllByRecursion, flat_map}
 use Rattle.tsdb_types.specs.declared.point.Cell.{Cell}
 use Rattle.point_model.specs.Points.{no_points, value_at}
-use Rattle.shard_core.specs.Contents.{overlay}
+use Rattle.point_model.specs.Contents.{overlay}
 use Rattle.shard_core.specs.Numbers.{AreDisjoint, count, named, names_of}
 use Rattle.shard_core.specs.State.{Core, File, Merge, now_of, source_numbers, tomb_of}
 

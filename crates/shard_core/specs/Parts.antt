@@ -4,8 +4,9 @@ use Rattle.std.specs.List.{AllByRecursion}
 use Rattle.tsdb_types.specs.declared.point.Cell.{Cell}
 use Rattle.point_model.specs.declared.entry.Entry.{Entry}
 use Rattle.point_model.specs.Points.{value_at}
-use Rattle.shard_core.specs.Contents.{Content, held}
-use Rattle.shard_core.specs.Effects.{applied, effects, is_deleted_by}
+use Rattle.point_model.specs.Contents.{Content}
+use Rattle.shard_core.specs.Contents.{held}
+use Rattle.point_model.specs.Effects.{applied, effects, is_deleted_by}
 use Rattle.shard_core.specs.State.{Core, File, Snapshot}
 
 -- The cells that later deletions take away aren't live; every other cell is as it was before these deletions.

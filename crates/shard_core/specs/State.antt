@@ -5,7 +5,8 @@ use Rattle.point_model.specs.declared.entry.Entry.{Entry}
 use Rattle.point_model.specs.Histories.{State, after}
 use Rattle.point_model.specs.Cursors.{Key}
 use Rattle.point_model.specs.Points.{Points}
-use Rattle.shard_core.specs.Contents.{Content, held}
+use Rattle.point_model.specs.Contents.{Content}
+use Rattle.shard_core.specs.Contents.{held}
 
 -- A file as the disk has it: its number, its generation, its tombstone file, and what is live in it under these tombstones.
 pub record Stored : Type 0 where

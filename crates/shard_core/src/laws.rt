@@ -1,13 +1,8 @@
-ghost use Rattle.shard_core.specs.Laws.{ContentsShow, CrashesLeave, EventsCome, EventsKeep, EveryListKeeps, HistoriesAct};
+ghost use Rattle.shard_core.specs.Laws.{FieldsGiveContents, CrashesLeave, EventsCome, EventsKeep, EveryListKeeps};
 
-/// What contents show together, and what a deletion and a change of neighbours make of it.
-pub fn contents_show()
-    ensures { ContentsShow }
-{}
-
-/// What a history makes of each cell, and which batches points accept.
-pub fn histories_act()
-    ensures { HistoriesAct }
+/// What the fields of a shard give of contents: tombstones, entries that are taken, batches that are accepted.
+pub fn fields_give_contents()
+    ensures { FieldsGiveContents }
 {}
 
 /// Each event keeps what holds of the state.

@@ -3,6 +3,4 @@
 
 mod laws;
 
-pub use laws::{
-    contents_show, crashes_leave, events_come, events_keep, every_list_keeps, histories_act,
-};
+pub use laws::{crashes_leave, events_come, events_keep, every_list_keeps, fields_give_contents};
