@@ -1,0 +1,16 @@
+pub mod Contents
+pub mod Crashes
+pub mod DiskEvents
+pub mod EntryEvents
+pub mod Events
+pub mod Images
+pub mod Invariant
+pub mod Kinds
+pub mod Laws
+pub mod MergeEvents
+pub mod Numbers
+pub mod Parts
+pub mod SnapshotEvents
+pub mod State
+pub mod Taken
+pub mod ViewEvents
