@@ -15,4 +15,3 @@ mod words;
 
 pub use coding::encode;
 pub use reading::decode;
-
