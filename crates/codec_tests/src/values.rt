@@ -2,11 +2,11 @@ ghost use Rattle.std.specs.Prelude.{◌≤◌, length};
 ghost use Rattle.tsdb_types.specs.declared.value.Kind.{Kind};
 ghost use Rattle.value_codec.specs.Coding.{AreOf};
 
-use super::*;
 use std::alloc::Global;
 use std::process::Abort;
 use std::test::Fail;
 use tsdb_types::{Kind, Time, Value};
+use value_codec::*;
 
 /// The values have these bytes, and the bytes these values.
 fn check(

@@ -1,7 +1,7 @@
-use super::*;
 use std::alloc::Global;
 use std::process::Abort;
 use std::test::Fail;
+use time_codec::*;
 use tsdb_types::{BlockFault, Time};
 
 fn times(alloc: Global, numbers: &[i64]) -> Result<Vec<Time>, Fail> {

@@ -1,4 +1,4 @@
-use super::*;
+use block_codec::*;
 use std::test::Fail;
 use tsdb_types::{BlockFault, Time, Value};
 

@@ -1,5 +1,5 @@
-use super::*;
 use std::test::Fail;
+use word_codec::*;
 
 /// Numbers with their spellings, as Protocol Buffers and DWARF write them.
 const SPELLINGS: [(u64, &[u8]); 6] = [

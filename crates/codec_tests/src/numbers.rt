@@ -1,4 +1,4 @@
-use crate::{put_i64, put_u16, put_u32, put_u64, take_i64, take_u16, take_u32, take_u64};
+use fixed_width::{put_i64, put_u16, put_u32, put_u64, take_i64, take_u16, take_u32, take_u64};
 use std::test::Fail;
 
 #[test]
