@@ -27,7 +27,7 @@ entry_at [] more entry = refl
 entry_at (e ∷ done) more entry = entry_at done more entry
 
 -- a reply without an entry, or an entry with its number
-pub Cases : ℕ → Reply → Option Entry → Type 0
+unfoldable pub Cases : ℕ → Reply → Option Entry → Type 0
 Cases number reply entry = ((entry ≡ None) × (accepted reply ≡ []))
     ⊎ ((made : Entry) × (entry ≡ Some made) × (accepted reply ≡ (number + 1) ∷ []))
 

@@ -1,5 +1,5 @@
 -- What one client was told, where a history explains it, is what the machine gives in a run that makes this history.
-use Rattle.std.proofs.Common.{◌≡◌, ◌≤◌, ◌+◌, ℕ, true, List, [], ◌∷◌, ◌++◌, length, take, refl, sym, ap, ◌∙◌, subst, arith, inl, inr, Option, Some, None, ◌⊎◌, IfSome, IsPermutation, slice_get, length-append}
+use Rattle.std.proofs.Common.{◌≡◌, ◌≤◌, ◌+◌, ℕ, suc, true, List, [], ◌∷◌, ◌++◌, length, take, refl, sym, ap, ◌∙◌, subst, arith, inl, inr, Option, Some, None, ◌⊎◌, IfSome, IsPermutation, slice_get, length-append}
 use Rattle.std.specs.List.{flat_map}
 use Rattle.std.proofs.lemmas.List.{append-nil, take_all}
 use Rattle.std.proofs.lemmas.List.Sorted.{length_permutation}
@@ -50,8 +50,10 @@ module _ (start : State) (history : List Entry) where
   one_more : (place : ℕ) (made : Entry) → slice_get history place ≡ Some made → with_entry (state_after start (take place history)) (Some made) ≡ state_after start (take (place + 1) history)
   one_more place made is =
       let below = slice_get_within history place made is in
+      let next : suc place ≡ place + 1 = omega arith in
       sym (state_after-append start (take place history) (made ∷ []))
-      ∙ ap (state_after start) (ap (λ (e : Entry). take place history ++ e ∷ []) (sym (get_or_from_slice_get history place made made is)) ∙ sym (take-suc history place made below))
+      ∙ ap (state_after start) (ap (λ (e : Entry). take place history ++ e ∷ []) (sym (get_or_from_slice_get history place made made is)) ∙ sym (take-suc history place made below)
+      ∙ ap (λ (n : ℕ). take n history) next)
 
   -- one answer, and then the rest
   step_runs : (least : ℕ) (a : Answer) (answers : List Answer) → IsGivenAt true Caused start history 0 a least
@@ -67,10 +69,10 @@ module _ (start : State) (history : List Entry) where
       )
   step_runs least a answers (within_it, inr (entry, serves, stands)) places whole go =
       elim (serves_cases true (state_after start (take least history)) 0 a entry serves) [
-        | inl (no, quiet) ↦
+        | inl (absent, quiet) ↦
             (let none : least + length (accepted a.reply) ≡ least = (let e = ap length quiet in omega (arith, e)) in (
               state_after start (take least history),
-              inr (entry, serves, sym (ap (with_entry (state_after start (take least history))) no)),
+              inr (entry, serves, sym (ap (with_entry (state_after start (take least history))) absent)),
               go least (subst (λ (n : ℕ). TakePlaces true Caused start history 0 n answers) none places) (omega (arith, none, whole)),
             ))
         | inr (made, some, one) ↦
@@ -114,5 +116,5 @@ explained_runs start history transcript explained = by explained.dialogues expla
           dialogue,
           subst (λ (n : ℕ). Records n transcript dialogue) (let e = first in omega (arith, e)) is.records,
           subst (λ (s : State). Run 0 s (all_answers dialogue) (state_after start history)) (sym (state_after-nil start))
-              (runs start history 0 (all_answers dialogue) (subst (λ (n : ℕ). TakePlaces true (λ before. IsOutOfMemory) start history 0 n (all_answers dialogue)) first is.places) owned),
+              (runs start history 0 (all_answers dialogue) (subst (λ (n : ℕ). TakePlaces true (λ before. IsOutOfMemory) start history 0 n (all_answers dialogue)) first is.places) (omega (arith, owned))),
         )
