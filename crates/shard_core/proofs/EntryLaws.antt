@@ -24,7 +24,9 @@ use Rattle.shard_core.specs.EntryEvents.{Deletes, HasOfKey, Writes, cut_file, cu
 use Rattle.shard_core.specs.Invariant.{IsIndex, MergeStands, Shows, ViewShows}
 use Rattle.shard_core.specs.Numbers.{AreApart, Climbs, count, held_by_views}
 use Rattle.shard_core.specs.Parts.{FileFollows, Parts}
-use Rattle.shard_core.specs.State.{Core, Merge, contents_of, generation_of, now_of, number_of, points_of, snapshot_contents, source_numbers}
+use Rattle.shard_core.specs.Files.{generation_of, now_of, number_of, source_numbers}
+use Rattle.shard_core.specs.Shown.{contents_of, snapshot_contents}
+use Rattle.shard_core.specs.State.{Core, Merge, points_of}
 use Rattle.shard_core.proofs.ListLemmas.{all_over, all_over_map, held_same, names_same, same_map}
 use Rattle.shard_core.proofs.Standing.{Standing}
 use Rattle.shard_core.proofs.PartLemmas

@@ -19,7 +19,9 @@ use Rattle.shard_core.specs.Images.{ImageStands, IsDirectory, image_value}
 use Rattle.shard_core.specs.Invariant.{IsIndex}
 use Rattle.shard_core.specs.Numbers.{Climbs, count, stored_names}
 use Rattle.shard_core.specs.Parts.{FileFollows, IfSnapshotIs, Parts}
-use Rattle.shard_core.specs.State.{Core, File, Image, Snapshot, Stored, content_in, contents_in, generation_in, generation_of, image_of, now_of, on_disk, snapshot_contents, stored_of}
+use Rattle.shard_core.specs.Files.{content_in, generation_in, generation_of, now_of, on_disk, stored_of}
+use Rattle.shard_core.specs.Shown.{contents_in, image_of, snapshot_contents}
+use Rattle.shard_core.specs.State.{Core, File, Image, Snapshot, Stored}
 use Rattle.shard_core.proofs.ListLemmas.{map_of_map}
 use Rattle.shard_core.proofs.MergeLaws.{overlay_hidden}
 use Rattle.shard_core.proofs.PartLemmas.{image_more, shown_is}

@@ -26,7 +26,9 @@ use Rattle.shard_core.specs.Kinds.{HasLive, KindsAgree, OneKind}
 use Rattle.shard_core.specs.MergeEvents.{EndsMerge, IsFileOfMerge, file_of_merge}
 use Rattle.shard_core.specs.Parts.{FileFollows}
 use Rattle.shard_core.specs.SnapshotEvents.{BeginsSnapshot, EndsSnapshot, IsFileOf, file_of, name_all}
-use Rattle.shard_core.specs.State.{Core, File, Merge, Snapshot, contents_in, contents_of, now_of, on_disk, points_of, snapshot_contents}
+use Rattle.shard_core.specs.Files.{now_of, on_disk}
+use Rattle.shard_core.specs.Shown.{contents_in, contents_of, snapshot_contents}
+use Rattle.shard_core.specs.State.{Core, File, Merge, Snapshot, points_of}
 use Rattle.shard_core.specs.Taken.{Accepts}
 use Rattle.shard_core.proofs.EntryLaws.{cell_same}
 use Rattle.shard_core.proofs.ListLemmas.{all_left, all_right, placed_map}

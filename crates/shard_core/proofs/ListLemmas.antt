@@ -7,7 +7,8 @@ use Rattle.std.specs.Option.{option_to_list}
 use Rattle.std.proofs.lemmas.List.{map-append}
 use Rattle.shard_core.specs.MergeEvents.{newest_generation}
 use Rattle.shard_core.specs.Numbers.{AreApart, Climbs, ShareNone, count, held_by_merges, held_by_views, names_of}
-use Rattle.shard_core.specs.State.{File, Merge, View, generation_of, number_of, source_numbers, tomb_of}
+use Rattle.shard_core.specs.Files.{generation_of, number_of, source_numbers, tomb_of}
+use Rattle.shard_core.specs.State.{File, Merge, View}
 
 pub all_over : {A : Type 0} (P Q : A → Type 0) → ((x : A) → P x → Q x) → (xs : List A) → AllByRecursion P xs → AllByRecursion Q xs
 all_over P Q leads [] all = tt

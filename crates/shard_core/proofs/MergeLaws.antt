@@ -14,7 +14,9 @@ use Rattle.shard_core.specs.Invariant.{MergeStands}
 use Rattle.shard_core.specs.MergeEvents.{EndsMerge, IsFileOfMerge, newest_generation}
 use Rattle.shard_core.specs.Numbers.{AreApart, Climbs, ShareNone, count, held_by_merges, names_of}
 use Rattle.shard_core.specs.Parts.{FileFollows}
-use Rattle.shard_core.specs.State.{Core, File, Merge, generation_of, now_of, number_of, snapshot_contents, source_numbers, tomb_of}
+use Rattle.shard_core.specs.Files.{generation_of, now_of, number_of, source_numbers, tomb_of}
+use Rattle.shard_core.specs.Shown.{snapshot_contents}
+use Rattle.shard_core.specs.State.{Core, File, Merge}
 use Rattle.shard_core.proofs.ListLemmas.{Without, all_append, all_left, all_right, apart_without, climbs_le, climbs_split, climbs_then, count-append, count_names, group_stays, held_without, names-append, newest_climbs, placed_map}
 use Rattle.shard_core.proofs.PartLemmas.{shown_is}
 use Rattle.shard_core.proofs.Standing.{Standing}

@@ -18,7 +18,8 @@ use Rattle.shard_core.specs.Crashes.{Images, MayLeave, Opens, opened_file}
 use Rattle.shard_core.specs.EntryEvents.{image_with}
 use Rattle.shard_core.specs.Images.{ImageStands}
 use Rattle.shard_core.specs.Kinds.{HasLive, KindsAgree, OneKind}
-use Rattle.shard_core.specs.State.{Core, Image, Stored, content_in, now_of, on_disk}
+use Rattle.shard_core.specs.Files.{content_in, now_of, on_disk}
+use Rattle.shard_core.specs.State.{Core, Image, Stored}
 use Rattle.shard_core.specs.Taken.{Admits, AdmitsAll, DoubtsTaken, EntriesTaken, IsReadable}
 use Rattle.shard_core.proofs.ImageLemmas.{each_stands}
 use Rattle.shard_core.proofs.KindLemmas.{Within, live_either, one_kind, within_both, within_itself, write_one}

@@ -19,7 +19,9 @@ use Rattle.shard_core.specs.MergeEvents.{AbandonsMerge, BeginsMerge}
 use Rattle.shard_core.specs.Numbers.{AreApart, Climbs, count, held_by_merges, held_by_views, names_of}
 use Rattle.shard_core.specs.Parts.{FileFollows, IfSnapshotIs, Parts}
 use Rattle.shard_core.specs.SnapshotEvents.{AbandonsSnapshot, BeginsSnapshot, Renames, name_all, with_snapshot}
-use Rattle.shard_core.specs.State.{Core, File, Image, Merge, Snapshot, View, generation_of, image_of, last_of, now_of, number_of, snapshot_contents, source_numbers}
+use Rattle.shard_core.specs.Files.{generation_of, now_of, number_of, source_numbers}
+use Rattle.shard_core.specs.Shown.{image_of, snapshot_contents}
+use Rattle.shard_core.specs.State.{Core, File, Image, Merge, Snapshot, View, last_of}
 use Rattle.shard_core.specs.ViewEvents.{BeginsView, EndsView, Purges, is_gone, view_of}
 use Rattle.shard_core.proofs.ImageLemmas.{image_stands, images_stand, opens_keeps}
 use Rattle.shard_core.proofs.ListLemmas.{all_append, all_left, all_over_map, all_right, apart_without, count-append, count_filtered, count_kept, held_same, held_without, held_without_view, placed_map, same_map, some_map}

@@ -20,7 +20,9 @@ use Rattle.shard_core.specs.EntryEvents.{cut_file, cut_merge, cut_snapshot, imag
 use Rattle.shard_core.specs.Images.{ImageStands}
 use Rattle.shard_core.specs.Invariant.{MergeStands, ViewShows}
 use Rattle.shard_core.specs.Parts.{Follows, IfSnapshotIs}
-use Rattle.shard_core.specs.State.{File, Image, Merge, Snapshot, View, content_in, contents_in, now_of, snapshot_contents}
+use Rattle.shard_core.specs.Files.{content_in, now_of}
+use Rattle.shard_core.specs.Shown.{contents_in, snapshot_contents}
+use Rattle.shard_core.specs.State.{File, Image, Merge, Snapshot, View}
 use Rattle.shard_core.proofs.ListLemmas.{placed_map, some_map}
 
 pub shown_is : (files : List File) (snapshot : Option Snapshot) (cache : Points) (cell : Cell)

@@ -19,7 +19,9 @@ use Rattle.shard_core.specs.Invariant.{MergeStands, Shows}
 use Rattle.shard_core.specs.Numbers.{AreApart, Climbs, count, held_by_views}
 use Rattle.shard_core.specs.Parts.{FileFollows, Follows, IfSnapshotIs, SnapshotIs}
 use Rattle.shard_core.specs.SnapshotEvents.{EndsSnapshot, IsFileOf, Renames, name_all, name_merge, without_snapshot}
-use Rattle.shard_core.specs.State.{Core, File, Merge, Snapshot, generation_of, now_of, number_of, snapshot_contents, source_numbers}
+use Rattle.shard_core.specs.Files.{generation_of, now_of, number_of, source_numbers}
+use Rattle.shard_core.specs.Shown.{snapshot_contents}
+use Rattle.shard_core.specs.State.{Core, File, Merge, Snapshot}
 use Rattle.shard_core.proofs.ListLemmas.{all_append, all_over_map, climbs_then, count-append, held_same, placed_map, same_map, some_map}
 use Rattle.shard_core.proofs.PartLemmas.{shown_is}
 use Rattle.shard_core.proofs.Standing.{Standing}

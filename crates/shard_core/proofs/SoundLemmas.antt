@@ -21,7 +21,9 @@ use Rattle.shard_core.specs.Kinds.{HasLive, KindsAgree, OneKind}
 use Rattle.shard_core.specs.MergeEvents.{EndsMerge}
 use Rattle.shard_core.specs.Parts.{FileFollows, IfSnapshotIs, Parts, SnapshotIs}
 use Rattle.shard_core.specs.SnapshotEvents.{EndsSnapshot, IsFileOf, name_all, without_snapshot}
-use Rattle.shard_core.specs.State.{Core, File, Snapshot, content_in, image_of, now_of, on_disk, points_of, snapshot_contents, stored_of}
+use Rattle.shard_core.specs.Files.{content_in, now_of, on_disk, stored_of}
+use Rattle.shard_core.specs.Shown.{image_of, snapshot_contents}
+use Rattle.shard_core.specs.State.{Core, File, Snapshot, points_of}
 use Rattle.shard_core.specs.Taken.{Accepts, Admits, AdmitsAll, Below, EntriesTaken, IsReadable}
 use Rattle.shard_core.proofs.ImageLemmas.{deleted-append, ends_deleted, entries_are}
 use Rattle.shard_core.proofs.KindLemmas.{Within, disk_all, disk_cut, live_either, live_left, live_right, live_shows, made_within, merge_disk_within, overlay_live, within_disk, within_named}

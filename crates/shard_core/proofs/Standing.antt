@@ -4,7 +4,8 @@ use Rattle.std.specs.List.{AllByRecursion}
 use Rattle.shard_core.specs.Invariant.{EditStands, GenerationsClimb, HeldPresent, HoldsCounted, IsIndex, MergeStands, NamedOnce, Shows, ViewShows}
 use Rattle.shard_core.specs.Numbers.{AreApart}
 use Rattle.shard_core.specs.Parts.{Parts}
-use Rattle.shard_core.specs.State.{Core, points_of, source_numbers}
+use Rattle.shard_core.specs.Files.{source_numbers}
+use Rattle.shard_core.specs.State.{Core, points_of}
 
 pub record Standing (core : Core) : Type 0 where
   pub shows : Shows core

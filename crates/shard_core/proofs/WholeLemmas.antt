@@ -19,7 +19,9 @@ use Rattle.shard_core.specs.Laws.{EventsKeep, EveryListKeeps}
 use Rattle.shard_core.specs.MergeEvents.{EndsMerge}
 use Rattle.shard_core.specs.Numbers.{count}
 use Rattle.shard_core.specs.SnapshotEvents.{AbandonsSnapshot, BeginsSnapshot, EndsSnapshot}
-use Rattle.shard_core.specs.State.{Core, Image, Merge, Snapshot, View, image_of, now_of, points_of, snapshot_contents, source_numbers}
+use Rattle.shard_core.specs.Files.{now_of, source_numbers}
+use Rattle.shard_core.specs.Shown.{image_of, snapshot_contents}
+use Rattle.shard_core.specs.State.{Core, Image, Merge, Snapshot, View, points_of}
 use Rattle.shard_core.specs.Taken.{Admits, DoubtsTaken, EntriesTaken, IsReadable}
 use Rattle.shard_core.specs.ViewEvents.{is_gone, view_of}
 use Rattle.shard_core.proofs.AcceptanceLemmas.{admitted}

@@ -9,7 +9,8 @@ use Rattle.point_model.specs.Effects.{is_deleted_by}
 use Rattle.shard_core.specs.EntryEvents.{image_with}
 use Rattle.shard_core.specs.Images.{image_value}
 use Rattle.shard_core.specs.Invariant.{IsIndex}
-use Rattle.shard_core.specs.State.{Core, File, Image, Stored, image_of}
+use Rattle.shard_core.specs.Shown.{image_of}
+use Rattle.shard_core.specs.State.{Core, File, Image, Stored}
 
 -- the directory where nothing was in doubt, or the one that an edit in doubt would leave
 abbrev pub Images : Core → Image → Type 0

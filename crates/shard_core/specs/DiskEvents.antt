@@ -4,12 +4,14 @@ use Rattle.point_model.specs.Cursors.{Key}
 use Rattle.shard_core.specs.MergeEvents.{EndsMerge}
 use Rattle.shard_core.specs.Numbers.{count, named}
 use Rattle.shard_core.specs.SnapshotEvents.{EndsSnapshot, Renames, name_all}
-use Rattle.shard_core.specs.State.{Core, File, Merge, image_of}
+use Rattle.shard_core.specs.Shown.{image_of}
+use Rattle.shard_core.specs.State.{Core, File, Merge}
 
 -- a chosen file has all its tombstones on the disk
 abbrev pub name_some : (File → Bool) → (File → Option ℕ) → File → File
 name_some chosen tombs file = if chosen file then name_all tombs file else file
 
+-- the merge with its sources so
 abbrev pub name_sources : (File → Bool) → (File → Option ℕ) → Merge → Merge
 name_sources chosen tombs merge = record merge { sources = map (name_some chosen tombs) merge.sources }
 

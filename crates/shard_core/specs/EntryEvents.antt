@@ -9,7 +9,8 @@ use Rattle.point_model.specs.Deletions.{without}
 use Rattle.point_model.specs.Histories.{with_points}
 use Rattle.point_model.specs.Cursors.{HasKey, Key}
 use Rattle.point_model.specs.Contents.{overlay, spared}
-use Rattle.shard_core.specs.State.{Core, File, Image, Merge, Snapshot, contents_of, points_of}
+use Rattle.shard_core.specs.Shown.{contents_of}
+use Rattle.shard_core.specs.State.{Core, File, Image, Merge, Snapshot, points_of}
 
 -- the directory with an entry more in its log
 abbrev pub image_with : Entry → Image → Image
@@ -47,6 +48,7 @@ pub record Writes (old new : Core) : Type 0 where
 abbrev pub cut_file : Deletion → File → File
 cut_file deletion file = record file { now = spared deletion file.now }
 
+-- the snapshot without them; its points stay
 abbrev pub cut_snapshot : Deletion → Snapshot → Snapshot
 cut_snapshot deletion snapshot = record snapshot { now = spared deletion snapshot.now }
 

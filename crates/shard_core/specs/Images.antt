@@ -8,7 +8,8 @@ use Rattle.point_model.specs.Points.{value_at}
 use Rattle.point_model.specs.Contents.{overlay}
 use Rattle.shard_core.specs.Contents.{left}
 use Rattle.shard_core.specs.Numbers.{Climbs, count, stored_names}
-use Rattle.shard_core.specs.State.{Image, content_in, generation_in}
+use Rattle.shard_core.specs.Files.{content_in, generation_in}
+use Rattle.shard_core.specs.State.{Image}
 
 -- what the entries of its log leave on the overlay of its files
 abbrev pub image_value : Image → Cell → Option Value

@@ -12,7 +12,9 @@ use Rattle.shard_core.specs.Images.{ImageStands}
 use Rattle.shard_core.specs.Kinds.{KindsAgree}
 use Rattle.shard_core.specs.Numbers.{AreApart, Climbs, count, held_by_merges, held_by_views, named}
 use Rattle.shard_core.specs.Parts.{Parts}
-use Rattle.shard_core.specs.State.{Core, File, Merge, View, contents_of, generation_of, now_of, number_of, points_of, source_numbers}
+use Rattle.shard_core.specs.Files.{generation_of, now_of, number_of, source_numbers}
+use Rattle.shard_core.specs.Shown.{contents_of}
+use Rattle.shard_core.specs.State.{Core, File, Merge, View, points_of}
 use Rattle.shard_core.specs.Taken.{DoubtsTaken, EntriesTaken}
 
 -- the overlay of files, snapshot and cache is the points after the history

@@ -5,7 +5,9 @@ use Rattle.tsdb_types.specs.declared.value.Value.{Value}
 use Rattle.tsdb_types.specs.Values.{kind_of}
 use Rattle.point_model.specs.Measurements.{is_same_field}
 use Rattle.point_model.specs.Contents.{Content}
-use Rattle.shard_core.specs.State.{Core, contents_of, on_disk}
+use Rattle.shard_core.specs.Files.{on_disk}
+use Rattle.shard_core.specs.Shown.{contents_of}
+use Rattle.shard_core.specs.State.{Core}
 
 -- one of the contents has the cell with this value, hidden by a newer one or not
 abbrev pub HasLive : List Content → Cell → Value → Type 0

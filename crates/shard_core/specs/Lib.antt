@@ -3,6 +3,7 @@ pub mod Crashes
 pub mod DiskEvents
 pub mod EntryEvents
 pub mod Events
+pub mod Files
 pub mod Images
 pub mod Invariant
 pub mod Kinds
@@ -10,6 +11,7 @@ pub mod Laws
 pub mod MergeEvents
 pub mod Numbers
 pub mod Parts
+pub mod Shown
 pub mod SnapshotEvents
 pub mod State
 pub mod Taken

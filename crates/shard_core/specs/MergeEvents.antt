@@ -5,7 +5,8 @@ use Rattle.tsdb_types.specs.declared.point.Cell.{Cell}
 use Rattle.point_model.specs.Points.{no_points, value_at}
 use Rattle.point_model.specs.Contents.{overlay}
 use Rattle.shard_core.specs.Numbers.{AreDisjoint, count, named, names_of}
-use Rattle.shard_core.specs.State.{Core, File, Merge, now_of, source_numbers, tomb_of}
+use Rattle.shard_core.specs.Files.{now_of, source_numbers, tomb_of}
+use Rattle.shard_core.specs.State.{Core, File, Merge}
 
 -- Files that stand one behind the other, of which none is a source of another merge; the output is what they show.
 pub record MayMerge (core : Core) (merge : Merge) : Type 0 where

@@ -2,7 +2,8 @@
 use Rattle.std.specs.Prelude.{◌≢◌, ℕ, suc, ◌+◌, ◌≤◌, ◌==◌, if◌then◌else◌, List, [], ◌∷◌, ◌++◌, map, ⊤}
 use Rattle.std.specs.Option.{option_to_list}
 use Rattle.std.specs.List.{AllByRecursion}
-use Rattle.shard_core.specs.State.{Core, File, Merge, Stored, View, source_numbers, stored_of}
+use Rattle.shard_core.specs.Files.{source_numbers, stored_of}
+use Rattle.shard_core.specs.State.{Core, File, Merge, Stored, View}
 
 -- how often the number is listed
 abbrev pub count : ℕ → List ℕ → ℕ

@@ -32,6 +32,7 @@ name_all tombs file = record {
   now = file.now;
 }
 
+-- the merge with its sources so
 abbrev pub name_merge : (File → Option ℕ) → Merge → Merge
 name_merge tombs merge = record merge { sources = map (name_all tombs) merge.sources }
 

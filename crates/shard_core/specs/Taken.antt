@@ -12,7 +12,9 @@ use Rattle.point_model.specs.Contents.{Content, overlay}
 use Rattle.shard_core.specs.Contents.{held}
 use Rattle.point_model.specs.Contents.{acted}
 use Rattle.shard_core.specs.Contents.{left}
-use Rattle.shard_core.specs.State.{Core, Image, content_in, image_of, on_disk, points_of}
+use Rattle.shard_core.specs.Files.{content_in, on_disk}
+use Rattle.shard_core.specs.Shown.{image_of}
+use Rattle.shard_core.specs.State.{Core, Image, points_of}
 use Rattle.shard_core.specs.Kinds.{OneKind}
 
 -- Each field of the batch that the content has, has the batch's kind there; and the batch has one kind for each field.

@@ -1,7 +1,9 @@
 -- What do views and the removal of files make of the state?
 use Rattle.std.specs.Prelude.{◌≡◌, ◌⊎◌, ℕ, ◌+◌, ◌-◌, ◌<◌, ◌==◌, ◌&&◌, nat_lt, Bool, true, not, List, ◌∷◌, ◌++◌, map, filter, None}
 use Rattle.shard_core.specs.Numbers.{count}
-use Rattle.shard_core.specs.State.{Core, View, contents_of, last_of, number_of}
+use Rattle.shard_core.specs.Files.{number_of}
+use Rattle.shard_core.specs.Shown.{contents_of}
+use Rattle.shard_core.specs.State.{Core, View, last_of}
 
 -- the view of this moment: all contents, and the number of the last entry
 abbrev pub view_of : Core → List ℕ → View
