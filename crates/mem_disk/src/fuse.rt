@@ -2,7 +2,7 @@ ghost use Rattle.std.specs.Prelude.{◌≡◌, reverse, true, unwrap_or};
 ghost use Rattle.std.specs.BTreeMap as tree;
 ghost use Rattle.std.specs.Ordering.{nat_cmp};
 ghost use Rattle.mem_disk.specs.HealthOf.{disk_health};
-ghost use Rattle.mem_disk.specs.History.{as_it_reads, reads, crashes_of, now_counts, now_alone};
+ghost use Rattle.mem_disk.specs.History.{adopted_after, as_it_reads, reads, crashes_of, keeps_all, now_counts, now_alone};
 
 use crate::{MemDisk, MemReader, MemWriter};
 use shard_disk::{Disk, Fault, Trouble};
@@ -51,18 +51,19 @@ impl Disk for Fuse {
     ghost use Rattle.std.specs.BTreeMap as tree;
     ghost use Rattle.std.specs.FinMap.{keys};
     ghost use Rattle.std.specs.Ordering.{nat_cmp};
-    ghost use Rattle.shard_disk.specs.Calls.Adopt.{Adopts, AdoptsNone};
+    ghost use Rattle.shard_disk.specs.Calls.Adopt.{Adopts, AdoptsNone, NeverBegan};
     ghost use Rattle.shard_disk.specs.Calls.Open.{Opens};
+    ghost use Rattle.shard_disk.specs.Calls.WriteAt.{WritesNone};
     ghost use Rattle.shard_disk.specs.Crash.{Follows, IsDurable, Same};
     ghost use Rattle.shard_disk.specs.Directory.{ChangesAt, HasFile, HasRange, IfThere, IsPresent, MadeOrNot, Overwritten, Torn, Vanishes, bytes_at};
-    ghost use Rattle.shard_disk.specs.HandedOut.{OneMoreReader};
-    ghost use Rattle.shard_disk.specs.Health.{Ages, Failed, FaultHasCause, HasCause, IsFresh, TakesOver};
+    ghost use Rattle.shard_disk.specs.HandedOut.{GivesUp, OneMoreReader};
+    ghost use Rattle.shard_disk.specs.Health.{FaultHasCause, HasCause, IsFresh, RefusalHasCause, TakesOver};
     ghost use Rattle.shard_disk.specs.Stage.{Finished, Open};
     ghost use Rattle.mem_disk.specs.Called.{IsCalled, IsUncounted, is_fault, is_refused_by_fault};
     ghost use Rattle.mem_disk.specs.Closed.{closed_lowest_of, files_of, handed_out_of, health_of, left_of};
     ghost use Rattle.mem_disk.specs.Fused.{disk_of};
     ghost use Rattle.mem_disk.specs.HealthOf.{device_health, disk_health};
-    ghost use Rattle.mem_disk.specs.History.{as_it_reads, crashes_of, now_alone, now_counts, reads};
+    ghost use Rattle.mem_disk.specs.History.{adopted_after, as_it_reads, crashes_of, keeps_all, now_alone, now_counts, reads};
     ghost use Rattle.mem_disk.specs.Progress.{stage_of};
     ghost use Rattle.mem_disk.specs.Reads.{lowest_of, reads_of};
 
@@ -76,7 +77,7 @@ impl Disk for Fuse {
 
     ghost crashes = { λ f. crashes_of f.disk.contents.changes.items };
 
-    ghost handed_out = { λ f. record { next_number = f.disk.contents.next; readers = λ n. unwrap_or (tree.get nat_cmp f.disk.readers n) 0 } };
+    ghost handed_out = { λ f. record { next_number = f.disk.contents.next; readers = λ n. unwrap_or (tree.get nat_cmp f.disk.readers n) 0; adopted = adopted_after (reverse f.disk.contents.changes.items) } };
 
     ghost health = { λ f. disk_health f.disk.calls };
 
@@ -85,6 +86,8 @@ impl Disk for Fuse {
     ghost writer_tells = { λ told. told };
 
     ghost as_read = { λ f told. as_it_reads f.disk.contents.changes.items };
+
+    ghost keeps_adopted = { λ f told. keeps_all f.disk.contents.changes.items _ _ };
 
     ghost numbered = { λ f n told there. f.disk.contents.below n there };
 
@@ -112,11 +115,9 @@ impl Disk for Fuse {
         ensures refused { OnErr result (AdoptsNone writer.bytes.items
             (files_of (disk_of self.old)) (files_of (disk_of self.new)) (left_of (disk_of self.old)) (left_of (disk_of self.new)) (handed_out_of (disk_of self.old)) (handed_out_of (disk_of self.new))) }
         ensures returned { IfErr result (λ refused. refused.0 ≡ writer) }
-        ensures memory_crash { IfErr result (λ refused. refused.1 ≡ Trouble.Memory → Follows Same (left_of (disk_of self.old)) (left_of (disk_of self.new))) }
-        ensures memory_number { IfErr result (λ refused. refused.1 ≡ Trouble.Memory → handed_out_of (disk_of self.new) ≡ handed_out_of (disk_of self.old)) }
-        ensures memory_health { IfErr result (λ refused. refused.1 ≡ Trouble.Memory → health_of (disk_of self.new) ≡ health_of (disk_of self.old)) }
-        ensures ages { Ages (health_of (disk_of self.old)) (health_of (disk_of self.new)) }
-        ensures fault { IfErr result (λ refused. refused.1 ≡ Trouble.Fault → Failed (health_of (disk_of self.old)) (health_of (disk_of self.new))) }
+        ensures memory { IfErr result (λ refused. refused.1 ≡ Trouble.Memory
+            → NeverBegan (left_of (disk_of self.old)) (left_of (disk_of self.new)) (handed_out_of (disk_of self.old)) (handed_out_of (disk_of self.new))) }
+        ensures fault { RefusalHasCause result (health_of (disk_of self.old)) (health_of (disk_of self.new)) }
         ensures call { IsCalled (is_refused_by_fault result) (disk_of self.old) (disk_of self.new) }
     {
         self.disk.adopt(writer)
@@ -134,8 +135,7 @@ impl Disk for Fuse {
 
     fn open(&mut self, no: u32) -> Result<MemReader, Trouble>
         requires { IsPresent (files_of (disk_of self.old)) no }
-        ensures ok { IfOk result (λ reader. Opens (IsTrue true) no (files_of (disk_of self.old)) (handed_out_of (disk_of self.old)) reader.bytes.items) }
-        ensures file { IfOk result (λ reader. reader.no ≡ no) }
+        ensures ok { IfOk result (λ reader. Opens (IsTrue true) no (files_of (disk_of self.old)) (handed_out_of (disk_of self.old)) reader.no reader.bytes.items) }
         ensures fresh { IfOk result (λ reader. IsFresh (health_of (disk_of self.old)) (device_health reader.calls)) }
         ensures unread { IfOk result (λ reader. reads_of reader ≡ 0) }
         ensures out { OnOk result (OneMoreReader no (handed_out_of (disk_of self.old)) (handed_out_of (disk_of self.new))) }
@@ -165,8 +165,7 @@ impl Disk for Fuse {
         ensures written { OnOk result (ChangesAt no (IfThere (Overwritten at bytes.now)) (files_of (disk_of self.old)) (files_of (disk_of self.new))) }
         ensures torn { ChangesAt no (IfThere (Torn at (length bytes.now))) (files_of (disk_of self.old)) (files_of (disk_of self.new)) }
         ensures crash { Follows (ChangesAt no (IfThere (Torn at (length bytes.now)))) (left_of (disk_of self.old)) (left_of (disk_of self.new)) }
-        ensures memory { IsErrOf result Trouble.Memory → files_of (disk_of self.new) ≡ files_of (disk_of self.old) }
-        ensures memory_crash { IsErrOf result Trouble.Memory → Follows Same (left_of (disk_of self.old)) (left_of (disk_of self.new)) }
+        ensures memory { IsErrOf result Trouble.Memory → WritesNone (files_of (disk_of self.old)) (files_of (disk_of self.new)) (left_of (disk_of self.old)) (left_of (disk_of self.new)) }
         ensures handed_out { handed_out_of (disk_of self.new) ≡ handed_out_of (disk_of self.old) }
         ensures fault { HasCause result (health_of (disk_of self.old)) (health_of (disk_of self.new)) }
         ensures call { IsCalled (is_fault result) (disk_of self.old) (disk_of self.new) }
@@ -216,7 +215,7 @@ impl Disk for Fuse {
         ensures removed { OnOk result (ChangesAt no Vanishes (files_of (disk_of self.old)) (files_of (disk_of self.new))) }
         ensures refused { OnErr result (files_of (disk_of self.new) ≡ files_of (disk_of self.old)) }
         ensures crash { Follows (ChangesAt no (MadeOrNot Vanishes)) (left_of (disk_of self.old)) (left_of (disk_of self.new)) }
-        ensures handed_out { handed_out_of (disk_of self.new) ≡ handed_out_of (disk_of self.old) }
+        ensures gone { GivesUp no (handed_out_of (disk_of self.old)) (handed_out_of (disk_of self.new)) }
         ensures fault { FaultHasCause result (health_of (disk_of self.old)) (health_of (disk_of self.new)) }
         ensures call { IsCalled (is_err result) (disk_of self.old) (disk_of self.new) }
     {

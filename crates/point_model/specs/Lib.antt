@@ -1,12 +1,15 @@
 pub mod Acceptance
 pub mod Conditions
+pub mod Contents
 pub mod Cursors
 pub mod Deletions
+pub mod Effects
 pub mod Histories
 pub mod Joins
 pub mod Laws
 pub mod Measurements
 pub mod Points
 pub mod Rows
+pub mod Sizes
 pub mod Tags
 pub mod Troubles

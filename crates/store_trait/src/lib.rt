@@ -18,4 +18,4 @@ mod tests;
 pub use fault::{ViewFault, WriteFault};
 pub use list_view::ListView;
 pub use plain::PlainStore;
-pub use store::Store;
+pub use store::{Store, alone_changes_itself};

@@ -1,4 +1,4 @@
-use Rattle.std.proofs.Common.{List, length, subst, sym}
+use Rattle.std.proofs.Common.{List, ap, length, subst, sym}
 use Rattle.std.specs.Prelude.{reverse}
 use Rattle.shard_disk.specs.Directory.{Directory, ChangesAt, IfThere, Torn}
 use Rattle.shard_disk.proofs.Runs.{adds_nothing}
@@ -22,5 +22,8 @@ pub returns-in-Err-clause-crash : goal.returns-in-Err-clause-crash
 returns-in-Err-clause-crash c =
     adds_nothing _ _ _ (torn_at_same c.args.no c.args.at (length c.args.bytes.now)) (follows_none c.args.self.now.contents.changes.items c.write.new.self.changes.items c.in-Err.ensures.err)
 
-pub returns-in-Err-clause-memory_crash : goal.returns-in-Err-clause-memory_crash
-returns-in-Err-clause-memory_crash c = λ memory. follows_none c.args.self.now.contents.changes.items c.write.new.self.changes.items c.in-Err.ensures.err
+pub returns-in-Err-clause-memory : goal.returns-in-Err-clause-memory
+returns-in-Err-clause-memory c = λ memory. record {
+  same = ap (λ (l : List Change). reads (reverse l)) c.in-Err.ensures.err;
+  crash = follows_none c.args.self.now.contents.changes.items c.write.new.self.changes.items c.in-Err.ensures.err;
+}
