@@ -5,9 +5,8 @@ use mem_disk::{Fail, MemDisk};
 use series_store::Series;
 use shard_disk::{Damage, Trouble, Why};
 use std::alloc::Global;
-use std::hash::RandomState;
 use std::test::Fail as Failed;
-use tsdb_types::SeriesKey;
+use tsdb_types::{Seed, SeriesKey};
 
 // The record of `cpu` and `cpu,host=a`, and the closed gate. The checksum is zlib's.
 const TWO: [u8; 31] = [
@@ -45,7 +44,7 @@ fn two_series_are_these_bytes(rt: HostRuntime) -> Result<(), Failed> {
     let alloc = rt.alloc();
     let mut disk = MemDisk::new(alloc, Vec::new(alloc));
     let log = Log::make(&mut disk)?;
-    let mut series = Series::new(alloc, RandomState::new(&rt)?, log);
+    let mut series = Series::new(alloc, Seed::new(7), log);
     let keys = two_keys(alloc)?;
     let new = series.prepare(&keys)?;
     series.add(&mut disk, new)?;
@@ -60,14 +59,14 @@ fn two_series_are_these_bytes(rt: HostRuntime) -> Result<(), Failed> {
 /// Adds two series while the disk's call at this place fails, and again. Tells whether there was a doubt in between.
 fn add_again(
     alloc: Global,
-    hashing: RandomState,
+    seed: Seed,
     place: u64,
 ) -> Result<(MemDisk, Series, bool), Failed> {
     let mut failing = Vec::new(alloc);
     failing.push(Fail::Disk(place))?;
     let mut disk = MemDisk::new(alloc, failing);
     let log = Log::make(&mut disk)?;
-    let mut series = Series::new(alloc, hashing, log);
+    let mut series = Series::new(alloc, seed, log);
     let keys = two_keys(alloc)?;
     let new = series.prepare(&keys)?;
     let Err(Trouble::Fault) = series.add(&mut disk, new) else {
@@ -87,7 +86,7 @@ fn a_series_of_a_failed_sync_has_one_id(rt: HostRuntime) -> Result<(), Failed> {
     let alloc = rt.alloc();
     let host = key(alloc, "cpu,host=a")?;
     for place in [3, 5] {
-        let (disk, series, doubt) = add_again(alloc, RandomState::new(&rt)?, place)?;
+        let (disk, series, doubt) = add_again(alloc, Seed::new(7), place)?;
         assert_eq!(rt; doubt, place == 5);
         assert_eq!(rt; disk.bytes(series.file()), Some(TWO.as_slice()));
         assert_eq!(rt; (series.len(), series.id(&host)), (2, Some(1)));
@@ -98,16 +97,16 @@ fn a_series_of_a_failed_sync_has_one_id(rt: HostRuntime) -> Result<(), Failed> {
 #[test]
 fn a_file_is_read_or_its_damage_named(rt: HostRuntime) -> Result<(), Failed> {
     let alloc = rt.alloc();
-    let hashing = RandomState::new(&rt)?;
+    let seed = Seed::new(7);
     let mut disk = MemDisk::new(alloc, Vec::new(alloc));
     let mut log = Log::make(&mut disk)?;
     log.append(&mut disk, &Frame::new(alloc, &TWO[9..30])?)?;
-    let series = Series::read(alloc, hashing, &mut disk, log.file())?;
+    let series = Series::read(alloc, seed, &mut disk, log.file())?;
     let text = series.key(1).map(|key| key.text());
     assert_eq!(rt; (series.len(), text), (2, Some("cpu,host=a")));
     // `cpu` stands again in the second record.
     log.append(&mut disk, &Frame::new(alloc, &ONE[9..18])?)?;
-    let fault = Series::read(alloc, hashing, &mut disk, log.file()).err();
+    let fault = Series::read(alloc, seed, &mut disk, log.file()).err();
     assert!(rt;
         matches!(
             fault,
