@@ -1,5 +1,5 @@
 -- What the tests' series are.
-use Rattle.std.proofs.Common.{◌≡◌, ℕ, List, [], ◌∷◌, length, nat_eq, codes, refl, arith}
+use Rattle.std.proofs.Common.{◌≡◌, ℕ, List, [], ◌∷◌, length, nat_eq, codes, refl, sym, subst, arith}
 use Rattle.std.specs.List.{flat_map, IsDistinct}
 use Rattle.std.specs.Cmp.Lexicographic.{pointwise}
 use Rattle.std.proofs.lemmas.List.{length-append}
@@ -31,3 +31,7 @@ two_may = record {
   room = (omega arith, (omega arith, tt));
   short = omega (arith, length-record_bytes two, two_short);
 }
+
+-- they may be added where no series is
+pub none_held : (held new : List (List ℕ)) → held ≡ [] → new ≡ two → MayAdd held new
+none_held held new none are = subst (MayAdd held) (sym are) (subst (λ (k : List (List ℕ)). MayAdd k two) (sym none) two_may)
