@@ -1,12 +1,12 @@
 ghost use Rattle.std.specs.Prelude.{◌≡◌, ◌∷◌, [], codes, IfOk};
 
-use crate::Series;
-use gate_log::{Log, LogFault};
+use gate_log::{Frame, Log, LogFault};
 use mem_disk::{Fail, MemDisk};
+use series_store::Series;
 use shard_disk::{Damage, Trouble, Why};
 use std::alloc::Global;
 use std::test::Fail as Failed;
-use tsdb_types::SeriesKey;
+use tsdb_types::{Seed, SeriesKey};
 
 // The record of `cpu` and `cpu,host=a`, and the closed gate. The checksum is zlib's.
 const TWO: [u8; 31] = [
@@ -44,9 +44,10 @@ fn two_series_are_these_bytes(rt: HostRuntime) -> Result<(), Failed> {
     let alloc = rt.alloc();
     let mut disk = MemDisk::new(alloc, Vec::new(alloc));
     let log = Log::make(&mut disk)?;
-    let mut series = Series::new(alloc, log);
+    let mut series = Series::new(alloc, Seed::new(7), log);
     let keys = two_keys(alloc)?;
-    series.add(&mut disk, &keys)?;
+    let new = series.prepare(&keys)?;
+    series.add(&mut disk, new)?;
     assert_eq!(rt; disk.bytes(series.file()), Some(TWO.as_slice()));
     assert_eq!(rt; (series.len(), series.in_doubt()), (2, false));
     assert_eq!(rt; series.id(&keys[1]), Some(1));
@@ -56,21 +57,27 @@ fn two_series_are_these_bytes(rt: HostRuntime) -> Result<(), Failed> {
 // Making the log takes the disk's calls 0 and 1, an append four: write and sync of the record, write and sync of its gate.
 
 /// Adds two series while the disk's call at this place fails, and again. Tells whether there was a doubt in between.
-fn add_again(alloc: Global, place: u64) -> Result<(MemDisk, Series, bool), Failed> {
+fn add_again(
+    alloc: Global,
+    seed: Seed,
+    place: u64,
+) -> Result<(MemDisk, Series, bool), Failed> {
     let mut failing = Vec::new(alloc);
     failing.push(Fail::Disk(place))?;
     let mut disk = MemDisk::new(alloc, failing);
     let log = Log::make(&mut disk)?;
-    let mut series = Series::new(alloc, log);
+    let mut series = Series::new(alloc, seed, log);
     let keys = two_keys(alloc)?;
-    let Err(Trouble::Fault) = series.add(&mut disk, &keys) else {
+    let new = series.prepare(&keys)?;
+    let Err(Trouble::Fault) = series.add(&mut disk, new) else {
         return Err("no fault".into());
     };
     if !series.is_empty() {
         return Err("a refused series has an id".into());
     }
     let doubt = series.in_doubt();
-    series.add(&mut disk, &keys)?;
+    let new = series.prepare(&keys)?;
+    series.add(&mut disk, new)?;
     Ok((disk, series, doubt))
 }
 
@@ -79,7 +86,7 @@ fn a_series_of_a_failed_sync_has_one_id(rt: HostRuntime) -> Result<(), Failed> {
     let alloc = rt.alloc();
     let host = key(alloc, "cpu,host=a")?;
     for place in [3, 5] {
-        let (disk, series, doubt) = add_again(alloc, place)?;
+        let (disk, series, doubt) = add_again(alloc, Seed::new(7), place)?;
         assert_eq!(rt; doubt, place == 5);
         assert_eq!(rt; disk.bytes(series.file()), Some(TWO.as_slice()));
         assert_eq!(rt; (series.len(), series.id(&host)), (2, Some(1)));
@@ -90,15 +97,16 @@ fn a_series_of_a_failed_sync_has_one_id(rt: HostRuntime) -> Result<(), Failed> {
 #[test]
 fn a_file_is_read_or_its_damage_named(rt: HostRuntime) -> Result<(), Failed> {
     let alloc = rt.alloc();
+    let seed = Seed::new(7);
     let mut disk = MemDisk::new(alloc, Vec::new(alloc));
     let mut log = Log::make(&mut disk)?;
-    log.append(alloc, &mut disk, &TWO[9..30])?;
-    let series = Series::read(alloc, &mut disk, log.file())?;
+    log.append(&mut disk, &Frame::new(alloc, &TWO[9..30])?)?;
+    let series = Series::read(alloc, seed, &mut disk, log.file())?;
     let text = series.key(1).map(|key| key.text());
     assert_eq!(rt; (series.len(), text), (2, Some("cpu,host=a")));
     // `cpu` stands again in the second record.
-    log.append(alloc, &mut disk, &ONE[9..18])?;
-    let fault = Series::read(alloc, &mut disk, log.file()).err();
+    log.append(&mut disk, &Frame::new(alloc, &ONE[9..18])?)?;
+    let fault = Series::read(alloc, seed, &mut disk, log.file()).err();
     assert!(rt;
         matches!(
             fault,

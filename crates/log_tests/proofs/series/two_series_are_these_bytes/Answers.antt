@@ -1,8 +1,8 @@
 use Rattle.std.proofs.Common.{◌∙◌, List, ℕ, sym, subst}
 use Rattle.series_store.specs.Calls.{Kept}
 use Rattle.series_store.specs.Lists.{MayAdd}
-use Rattle.series_store.proofs.TestLemmas.{two, two_may}
-use Rattle.series_store.proofs.tests.two_series_are_these_bytes.Goals as goal
+use Rattle.log_tests.proofs.TwoSeries.{two, two_may}
+use Rattle.log_tests.proofs.series.two_series_are_these_bytes.Goals as goal
 
 pub add-requires-clause-may : goal.add-requires-clause-may
 add-requires-clause-may g c = λ lifetimes.

@@ -1,8 +1,8 @@
 ghost use Rattle.std.specs.Prelude.{◌≡◌, ◌≢◌, ◌∷◌, [], IfOk, OnOk};
 ghost use Rattle.shard_disk.specs.Stage.{Finished, Refused};
 
-use crate::{Change, Changes, Edit, Manifest};
 use gate_log::LogFault;
+use manifest_log::{Change, Changes, Edit, Manifest};
 use mem_disk::MemDisk;
 use shard_disk::{Damage, Disk, Trouble, Why, Writer};
 use std::alloc::{AllocError, Global};
@@ -111,7 +111,8 @@ fn the_first_edit_is_these_bytes(rt: HostRuntime) -> Result<(), Fail> {
     let mut disk = MemDisk::new(alloc, Vec::new(alloc));
     let mut manifest = Manifest::begin(alloc, &mut disk)?;
     let edit = first_edit(alloc)?;
-    manifest.edit(alloc, &mut disk, &edit)?;
+    let frame = Manifest::frame(alloc, &edit)?;
+    manifest.edit(&mut disk, &frame)?;
     assert!(rt; !manifest.in_doubt());
     assert_eq!(rt; disk.bytes(0), Some(FIRST.as_slice()));
     Ok(())

@@ -1,5 +1,5 @@
 -- The first edit of a directory may follow.
-use Rattle.std.proofs.Common.{◌≡◌, ℕ, List, [], ◌∷◌, ◌++◌, length, refl, sym, ap, ◌∙◌, subst, arith, None}
+use Rattle.std.proofs.Common.{◌≡◌, ℕ, List, [], ◌∷◌, ◌++◌, length, refl, sym, ap, ◌∙◌, arith, None}
 use Rattle.std.specs.List.{IsDistinct}
 use Rattle.std.specs.FinMap.{keys, entries, empty, len, len-empty, len-entries}
 use Rattle.std.specs.Ordering.{nat_cmp}
@@ -9,15 +9,12 @@ use Rattle.fixed_width.proofs.Fronts.{length-u32, length-u64}
 use Rattle.shard_disk.specs.Directory.{Directory as Files}
 use Rattle.shard_disk.specs.Crash.{Crashes}
 use Rattle.gate_log.specs.Log.{Stands}
-use Rattle.gate_log.specs.Records.{spelled}
 use Rattle.manifest_log.specs.declared.change.Change.{Change}
 use Rattle.manifest_log.specs.declared.change.Change.TheVariants.{AddSegment, SetFloor}
-use Rattle.manifest_log.specs.declared.directory.Directory.{Directory}
 use Rattle.manifest_log.specs.declared.manifest.Manifest.{Manifest}
-use Rattle.manifest_log.specs.Format.{IsWritable}
-use Rattle.manifest_log.specs.Edits.{IsSound, Follows, Leave}
+use Rattle.manifest_log.specs.Format.{edit_bytes, IsWritable}
+use Rattle.manifest_log.specs.Edits.{IsSound}
 use Rattle.manifest_log.specs.Edits.{empty as nothing}
-use Rattle.manifest_log.specs.Reading.{bodies_of}
 use Rattle.manifest_log.specs.Calls.{MayFollow}
 
 pub no_files : (files : Files) → files ≡ empty → keys files ≡ []
@@ -35,16 +32,19 @@ sound : IsSound (record nothing { segments = 1 ∷ [] })
 unfolding IsDistinct
 sound = record { once = ((refl, tt), ((tt, tt))); ages = tt; below = tt }
 
-no_edits : (edits : List (List Change)) → length (spelled (bodies_of edits)) ≡ 0 → edits ≡ []
-no_edits [] none = refl
-no_edits (e ∷ es) none = absurd (omega (arith, none))
-
-pub first_may : (tells : Type 0) (changes : List Change) (begun : Manifest) (files : Files) (crashes : Crashes) → changes ≡ AddSegment 1 ∷ SetFloor 0 ∷ [] → (tells → Stands files crashes begun.log [] None)
-    → MayFollow tells changes begun files crashes
-first_may tells changes begun files crashes is stands = subst (λ (l : List Change). MayFollow tells l begun files crashes) (sym is) (record {
-  writable = writable;
-  follows = λ t edits doubt directory lead there.
-      let none : edits ≡ [] = no_edits edits (sym there.place ∙ (stands t).place) in
-      let left : directory ≡ nothing = subst (λ (l : List (List Change)). Leave nothing l directory) none lead.leave in
-      (record nothing { segments = 1 ∷ [] }, subst (λ (d : Directory). Follows d (AddSegment 1 ∷ SetFloor 0 ∷ []) (record nothing { segments = 1 ∷ [] })) (sym left) (record { made = refl; sound = sound }));
-})
+pub first_may : (tells : Type 0) (changes : List Change) (body : List ℕ) (begun : Manifest) (files : Files) (crashes : Crashes) → changes ≡ AddSegment 1 ∷ SetFloor 0 ∷ [] → body ≡ edit_bytes changes → (tells → Stands files crashes begun.log [] None)
+    → MayFollow tells body begun files crashes
+first_may tells changes body begun files crashes is framed stands = record {
+  changes = AddSegment 1 ∷ SetFloor 0 ∷ [];
+  written = writable;
+  are = framed ∙ ap edit_bytes is;
+  follows = λ t. record {
+    edits = [];
+    doubt = None;
+    directory = nothing;
+    next = record nothing { segments = 1 ∷ [] };
+    lead = record { written = tt; leave = refl };
+    stands = stands t;
+    follows = record { made = refl; sound = sound };
+  };
+}

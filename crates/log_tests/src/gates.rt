@@ -1,4 +1,4 @@
-use super::*;
+use gate_log::{Frame, Log};
 use mem_disk::{Fail, Fuse, MemDisk};
 use std::alloc::{AllocError, Global};
 use std::test::Fail as Failed;
@@ -17,7 +17,7 @@ fn a_record_is_added(rt: HostRuntime) -> Result<(), Failed> {
     let mut log = Log::make(&mut disk)?;
     assert_eq!(rt; log.file(), 0);
     assert_eq!(rt; disk.bytes(0), Some([0].as_slice()));
-    log.append(alloc, &mut disk, &[0xAA])?;
+    log.append(&mut disk, &Frame::new(alloc, &[0xAA])?)?;
     // The checksum of the one byte AA is zlib's.
     let bytes = [1, 0, 0, 0, 1, 0xE4, 0x01, 0xA5, 0x7B, 0xAA, 0];
     assert_eq!(rt; disk.bytes(0), Some(bytes.as_slice()));
@@ -32,9 +32,9 @@ fn a_fault_before_the_gate_leaves_no_doubt(rt: HostRuntime) -> Result<(), Failed
     let alloc = rt.alloc();
     let mut disk = disk_failing_at(alloc, 3)?;
     let mut log = Log::make(&mut disk)?;
-    assert!(rt; log.append(alloc, &mut disk, &[1]).is_err());
+    assert!(rt; log.append(&mut disk, &Frame::new(alloc, &[1])?).is_err());
     assert!(rt; !log.in_doubt());
-    log.append(alloc, &mut disk, &[2])?;
+    log.append(&mut disk, &Frame::new(alloc, &[2])?)?;
     let bytes = [1, 0, 0, 0, 1, 0x3C, 0x0C, 0x8E, 0xA1, 2, 0];
     assert_eq!(rt; disk.bytes(0), Some(bytes.as_slice()));
     Ok(())
@@ -45,7 +45,7 @@ fn a_fault_at_the_gate_is_settled(rt: HostRuntime) -> Result<(), Failed> {
     let alloc = rt.alloc();
     let mut disk = disk_failing_at(alloc, 5)?;
     let mut log = Log::make(&mut disk)?;
-    assert!(rt; log.append(alloc, &mut disk, &[1]).is_err());
+    assert!(rt; log.append(&mut disk, &Frame::new(alloc, &[1])?).is_err());
     assert!(rt; log.in_doubt());
     log.settle(&mut disk)?;
     assert!(rt; !log.in_doubt());
@@ -59,10 +59,10 @@ fn each_image_of_each_stop_has_two_or_three_records(rt: HostRuntime) -> Result<(
     for k in 0..6 {
         let mut disk = MemDisk::new(alloc, Vec::new(alloc));
         let mut log = Log::make(&mut disk)?;
-        log.append(alloc, &mut disk, &[1])?;
-        log.append(alloc, &mut disk, &[2, 2])?;
+        log.append(&mut disk, &Frame::new(alloc, &[1])?)?;
+        log.append(&mut disk, &Frame::new(alloc, &[2, 2])?)?;
         let mut fuse = Fuse::new(disk, k);
-        let stopped = log.append(alloc, &mut fuse, &[3, 3, 3]).is_err();
+        let stopped = log.append(&mut fuse, &Frame::new(alloc, &[3, 3, 3])?).is_err();
         assert_eq!(rt; stopped, k < 4);
         let (fewest, most) = counts_left(alloc, &fuse.into_disk())?;
         // The third record can't be there before its gate is written, and is there once that is synced.

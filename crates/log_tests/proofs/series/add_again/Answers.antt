@@ -1,8 +1,8 @@
 use Rattle.std.proofs.Common.{◌∙◌, List, ℕ, sym, subst}
 use Rattle.series_store.specs.Calls.{Kept}
 use Rattle.series_store.specs.Lists.{MayAdd}
-use Rattle.series_store.proofs.TestLemmas.{two, two_may}
-use Rattle.series_store.proofs.tests.add_again.Goals as goal
+use Rattle.log_tests.proofs.TwoSeries.{two, two_may}
+use Rattle.log_tests.proofs.series.add_again.Goals as goal
 
 pub add-requires-clause-may : goal.add-requires-clause-may
 add-requires-clause-may c = λ lifetimes.

@@ -1,11 +1,8 @@
--- What the tests' series are, and that their file is there.
-use Rattle.std.proofs.Common.{◌≡◌, ℕ, List, [], ◌∷◌, length, nat_eq, codes, Option, None, Some, IsSome, refl, arith}
-use Rattle.std.specs.FinMap.{get}
+-- What the tests' series are.
+use Rattle.std.proofs.Common.{◌≡◌, ℕ, List, [], ◌∷◌, length, nat_eq, codes, refl, arith}
 use Rattle.std.specs.List.{flat_map, IsDistinct}
-use Rattle.std.specs.Option.{IsSomeAnd}
 use Rattle.std.specs.Cmp.Lexicographic.{pointwise}
 use Rattle.std.proofs.lemmas.List.{length-append}
-use Rattle.shard_disk.specs.Directory.{Directory, HasFile, IsPresent}
 use Rattle.series_store.specs.Format.{series_bytes}
 use Rattle.series_store.specs.Lists.{MayAdd}
 use Rattle.series_store.proofs.FormatLemmas.{length-record_bytes, length-series_bytes}
@@ -34,10 +31,3 @@ two_may = record {
   room = (omega arith, (omega arith, tt));
   short = omega (arith, length-record_bytes two, two_short);
 }
-
-some_of : {X : Type 0} (P : X → Type 0) (o : Option X) → IsSomeAnd o P → IsSome o
-some_of P None p = absurd p
-some_of P (Some x) p = refl
-
-pub present : (files : Directory) (number : ℕ) (P : List ℕ → Type 0) → HasFile files number P → IsPresent files number
-present files number P has = some_of P (get files number) has
