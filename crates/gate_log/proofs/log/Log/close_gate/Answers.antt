@@ -5,7 +5,7 @@ use Rattle.shard_disk.specs.Directory.{Overwritten}
 use Rattle.shard_disk.proofs.Everywhere.{file_after, file_weaker}
 use Rattle.gate_log.specs.declared.log.Gate.TheVariants.{Shut}
 use Rattle.gate_log.proofs.Settling.{still_stands, stands_shut, leaves_either, leaves_as_it_is, reaches}
-use Rattle.gate_log.proofs.log.Log.settle.Goals as goal
+use Rattle.gate_log.proofs.log.Log.close_gate.Goals as goal
 
 pub returns-then-eq-clause-crash : goal.returns-then-eq-clause-crash
 returns-then-eq-clause-crash g c =
