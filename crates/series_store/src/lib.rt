@@ -4,12 +4,14 @@
 
 mod held;
 mod laws;
+mod new;
 mod put;
 mod read;
 mod series;
 mod take;
 
 pub use laws::{one_file, records_hold};
+pub use new::NewSeries;
 pub use series::Series;
 
 #[cfg(test)]
