@@ -16,7 +16,7 @@ use Rattle.shard_core.specs.Crashes.{Crashes, MayLeave, Opens}
 use Rattle.shard_core.specs.DiskEvents.{CompactsIndex, DoubtsEdit, Records, SettlesEdit, StoresChanges, StoresIndex}
 use Rattle.shard_core.specs.EntryEvents.{Deletes, DoubtsEntry, Settles, Writes}
 use Rattle.shard_core.specs.Events.{AreEvents}
-use Rattle.shard_core.specs.Images.{ImageStands, IsDirectory}
+use Rattle.shard_core.specs.Images.{GoesOn, ImageStands, IsDirectory}
 use Rattle.shard_core.specs.Invariant.{Invariant}
 use Rattle.shard_core.specs.MergeEvents.{AbandonsMerge, BeginsMerge, EndsMerge}
 use Rattle.shard_core.specs.Numbers.{named}
@@ -60,11 +60,12 @@ pub record EventsKeep : Type 0 where
 abbrev pub EveryListKeeps : Type 0
 EveryListKeeps = (core : Core) (rest : List Core) → Invariant core → AreEvents core rest → AllByRecursion Invariant rest
 
--- What a crash may leave stands for the points after the history, or after it and the entry in doubt, and can be read again; and
--- a directory that can be read again is opened to a state that meets the invariant.
+-- What a crash may leave stands for the points after the history, or after it and the entry in doubt, and can be read again; what
+-- is opened then begins there; and a directory that can be read again is opened to a state that meets the invariant.
 pub record CrashesLeave : Type 0 where
   pub stands : (core : Core) → Invariant core → (more : List Entry) (image : Image) → MayLeave core more image → ImageStands core.start (core.history ++ more) image
   pub readable : (core : Core) → Invariant core → (more : List Entry) (image : Image) → MayLeave core more image → IsReadable image
+  pub begins : (old new : Core) (crashes : Crashes old new) → Invariant old → GoesOn old.start (old.history ++ crashes.more) new.start
   pub opens : (image : Image) (core : Core) → IsDirectory image → IsReadable image → Opens image core → Invariant core
 
 -- A snapshot that stands, and each merge, can end, with any unused number for its file; and an empty directory can be opened.
