@@ -1,7 +1,6 @@
 //! Runs of the program over desks in memory.
 mod faults;
 mod rows;
-mod short;
 
 use crate::{OpenGate, tsmd};
 use session_io::{Client, Closed, Desk, MemClock, MemDesk, MemSink, MemSource, Word};
