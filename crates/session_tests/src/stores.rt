@@ -1,10 +1,10 @@
 ghost use Rattle.std.specs.Prelude.{Contains, IfSome};
 
-use super::*;
 use line_protocol::read_batch;
 use point_model::{Need, PointCursor, TagCond, TagText};
 use std::alloc::Global;
 use std::test::Fail;
+use store_trait::{ListView, PlainStore, Store, ViewFault, WriteFault};
 use tsdb_types::{Kind, Name, Time, Value};
 
 // The answer to lines of writing, which spell a batch.

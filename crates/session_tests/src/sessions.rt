@@ -1,12 +1,12 @@
 ghost use Rattle.std.specs.Prelude.{◌≡◌, []};
 
-use super::*;
 use session_io::{End, Gate, MemClock, MemSink, MemSource, Place, Report};
+use session_loop::session;
 use std::test::Fail;
 use store_trait::{PlainStore, Store};
 
 /// It holds nobody.
-struct NoGate;
+pub(crate) struct NoGate;
 
 impl Gate for NoGate {
     fn reach(&self, _who: u32, _place: Place) {}
@@ -47,19 +47,22 @@ fn each_request_has_its_reply(rt: HostRuntime) -> Result<(), Fail> {
 
 #[test]
 fn devices_fail(rt: HostRuntime) -> Result<(), Fail> {
-    let input = b"INSERT cpu v=1i 10\nINSERT cpu v=2i 20\nSELECT";
+    let input = b"INSERT cpu v=1i 10\nINSERT cpu v=2i 20\nINSERT cpu v=3i 30\nSELECT";
     let (report, sink) = served(&rt, &mut PlainStore::new(rt.alloc(), 0), input, &[1], &[])?;
-    assert_eq!(rt; sink.bytes(), b"ok 1\nok 2\n".as_slice());
+    assert_eq!(rt; sink.bytes(), b"ok 1\nok 2\nok 3\n".as_slice());
     assert_eq!(rt;
         (report.requests, report.last, report.end),
-        (2, 2, End::SourceFault)
+        (3, 3, End::SourceFault)
     );
-    let (report, sink) = served(&rt, &mut PlainStore::new(rt.alloc(), 0), input, &[], &[1])?;
+    // The reply to the second request is refused, and the third request isn't served.
+    let mut store = PlainStore::new(rt.alloc(), 0);
+    let (report, sink) = served(&rt, &mut store, input, &[], &[1])?;
     assert_eq!(rt; sink.bytes(), b"ok 1\n".as_slice());
     assert_eq!(rt;
         (report.requests, report.last, report.end),
         (1, 2, End::SinkFault)
     );
+    assert_eq!(rt; store.number(), 2);
     Ok(())
 }
 
