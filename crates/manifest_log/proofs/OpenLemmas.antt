@@ -92,11 +92,12 @@ floor_changed (NameIndex log file) old new low is = kept true _ new low is
 
 floor_all : (changes : List Change) (old new : Directory) → old.floor ≤ last_number → all_changed old changes ≡ Some new → new.floor ≤ last_number
 floor_all [] old new low is = let same : old ≡ new = cc is in subst (λ (d : Directory). d.floor ≤ last_number) same low
-floor_all (change ∷ changes) old new low is = step (changed old change) refl is
+floor_all (change ∷ changes) old new low is = step (changed old change) refl is (λ mid below made. floor_all changes mid new below made)
   where
-    step : (next : Option Directory) → changed old change ≡ next → option_and_then (λ mid. all_changed mid changes) next ≡ Some new → new.floor ≤ last_number
-    step None made is = cc is
-    step (Some mid) made is = floor_all changes mid new (floor_changed change old mid low made) is
+    step : (next : Option Directory) → changed old change ≡ next → option_and_then (λ mid. all_changed mid changes) next ≡ Some new
+        → ((mid : Directory) → mid.floor ≤ last_number → all_changed mid changes ≡ Some new → new.floor ≤ last_number) → new.floor ≤ last_number
+    step None made is further = cc is
+    step (Some mid) made is further = further mid (floor_changed change old mid low made) is
 
 pub lead_floor : (edits : List (List Change)) (old new : Directory) → old.floor ≤ last_number → Leave old edits new → new.floor ≤ last_number
 lead_floor [] old new low leave = subst (λ (d : Directory). d.floor ≤ last_number) (sym leave) low

@@ -1,4 +1,4 @@
-use Rattle.std.proofs.Common.{◌≡◌, ◌∙◌, length, ap, subst, arith, Vec, ℕ, List}
+use Rattle.std.proofs.Common.{◌≡◌, ◌∙◌, [], length, ap, subst, arith, Vec, ℕ, List}
 use Rattle.std.proofs.lemmas.List.{take_all}
 use Rattle.std.specs.declared.alloc.Global.{Global}
 use Rattle.shard_disk.specs.declared.damage.Damage.{Damage}
@@ -6,7 +6,7 @@ use Rattle.shard_disk.specs.declared.damage.Why.TheVariants.{Body}
 use Rattle.gate_log.specs.Damage.{bodies}
 use Rattle.series_store.specs.Lists.{Hold}
 use Rattle.series_store.specs.Reading.{StandsBehind}
-use Rattle.series_store.proofs.HoldLemmas.{folded_none, folded_more, stands_behind}
+use Rattle.series_store.proofs.HoldLemmas.{folded_none, folded_more, hold_sound, list_none, stands_behind}
 use Rattle.series_store.proofs.read.series_of.Goals as goal
 
 pub loop-record-init : goal.loop-record-init
@@ -31,3 +31,6 @@ pub returns-clause-found : goal.returns-clause-found
 returns-clause-found c =
     let all = take_all c.loop-record.record-index c.args.records.now c.loop-record-test.false in
     subst (λ (l : List (Vec ℕ Global)). Hold (bodies l) c.loop-record.held.keys) all c.loop-record.invariant.hold
+
+pub follow-requires : goal.follow-requires
+follow-requires c = (hold_sound _ [] _ list_none c.loop-record.invariant.hold).few
