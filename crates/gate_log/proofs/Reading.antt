@@ -105,6 +105,7 @@ pub reads_since : (tells : Type 0) (number : ℕ) (log : Log) (records : List (L
 reads_since tells number log records files first old new run reads = record {
   found = reads.found;
   fit = reads.fit;
+  place = reads.place;
   durable = reads.durable;
   stands = λ told present. reads.stands told (λ c now. let from = run.now c now in subst (λ (d : Directory). IsPresent d number) (sym from.2) (present from.0 from.1));
   gated = reads.gated;
@@ -117,6 +118,7 @@ pub reads_then : (tells : Type 0) (number : ℕ) (log : Log) (records : List (Li
 reads_then tells number log records files old mid new run reads = record {
   found = reads.found;
   fit = reads.fit;
+  place = reads.place;
   durable = durable_then files mid new number run reads.durable;
   stands = λ told present. stands_then files mid new log records None run (reads.stands told present);
   gated = reads.gated;

@@ -12,6 +12,3 @@ pub use fault::LogFault;
 pub use frame::Frame;
 pub use laws::one_list;
 pub use log::Log;
-
-#[cfg(test)]
-mod tests;

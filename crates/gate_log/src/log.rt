@@ -134,8 +134,7 @@ impl Log {
         ensures placed { IsTrue D.tells → IsPlaced (D.files disk.new) self.new }
         ensures kept { KeepsFile (IsTrue D.tells) self.old self.new (D.files disk.old) (D.files disk.new) }
         ensures handed_out { D.handed_out disk.new ≡ D.handed_out disk.old }
-        ensures ages { Ages (D.health disk.old) (D.health disk.new) }
-        ensures fault { IsErrOf result Trouble.Fault → Failed (D.health disk.old) (D.health disk.new) }
+        ensures fault { HasCause result (D.health disk.old) (D.health disk.new) }
     {
         let frame = frame.bytes();
         let size = frame.len() as u64;

@@ -41,8 +41,8 @@ pub record Begins (tells : Type 0) (begun : Manifest) (files files' : Files) (cr
 
 -- The files are the same, so that a manifest may begin at another opening. Numbers may have been passed over.
 pub record BeginsNone (tells : Type 0) (files files' : Files) (handed handed' : HandedOut) : Type 0 where
-  pub files : tells → files' ≡ files
-  pub number : SkipsNumbers handed handed'
+  pub same : tells → files' ≡ files
+  pub number : tells → SkipsNumbers handed handed'
 
 -- some edits stand, which leave a directory that these changes may follow
 pub record CanFollow (changes : List Change) (old : Manifest) (files : Files) (crashes : Crashes) : Type 0 where

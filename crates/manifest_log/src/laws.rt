@@ -1,10 +1,7 @@
 ghost use Rattle.std.specs.Prelude.{◌≡◌, ◌≢◌, ◌++◌, ◌∷◌, [], ℕ, List, Option, Result};
-ghost use Rattle.shard_disk.specs.Crash.{Crashes};
 ghost use Rattle.shard_disk.specs.Directory.{Directory as Disk};
 ghost use Rattle.shard_disk.specs.declared.damage.Damage.{Damage};
-ghost use Rattle.gate_log.specs.Log.{Stands};
 ghost use Rattle.gate_log.specs.Records.{AllFit, IsGated};
-ghost use Rattle.gate_log.specs.declared.log.Log.{Log};
 ghost use Rattle.manifest_log.specs.declared.change.Change.{Change};
 ghost use Rattle.manifest_log.specs.declared.directory.Directory.{Directory};
 ghost use Rattle.manifest_log.specs.Edits.{Follows};
@@ -31,10 +28,4 @@ pub fn edits_lead()
     ensures fit { (edits : List (List Change)) (directory : Directory) → Lead edits directory → AllFit (bodies_of edits) }
     ensures more { (edits : List (List Change)) (changes : List Change) (directory next : Directory) → Lead edits directory → IsWritable changes → Follows directory changes next
         → Lead (edits ++ changes ∷ []) next }
-{}
-
-/// The edits that stand in a log leave one directory.
-pub fn one_directory()
-    ensures { (files : Disk) (crashes : Crashes) (log : Log) (some others : List (List Change)) (doubt left : Option (List ℕ)) (directory other : Directory)
-        → Lead some directory → Lead others other → Stands files crashes log (bodies_of some) doubt → Stands files crashes log (bodies_of others) left → directory ≡ other }
 {}

@@ -8,13 +8,12 @@ ghost use Rattle.series_store.specs.Lists.{HasNoId};
 
 use indexmap::IndexSet;
 use std::alloc::{AllocError, Global};
-use std::hash::RandomState;
-use tsdb_types::SeriesKey;
+use tsdb_types::{Seed, SeriesKey};
 
 /// Holds the series of a text, where it is one that isn't held.
 pub fn hold_text(
     alloc: Global,
-    held: &mut IndexSet<SeriesKey, RandomState>,
+    held: &mut IndexSet<SeriesKey, Seed>,
     text: &[u8],
 ) -> Result<bool, AllocError>
     ensures new { IfOk result (λ new. IsTrue new → IsKey text.now × (held.new.keys ≡ held.old.keys ++ text.now ∷ [])) }
@@ -34,7 +33,7 @@ pub fn hold_text(
 }
 
 /// Holds series that aren't held, where there is room for them.
-pub fn hold_all(held: &mut IndexSet<SeriesKey, RandomState>, series: Vec<SeriesKey>)
+pub fn hold_all(held: &mut IndexSet<SeriesKey, Seed>, series: Vec<SeriesKey>)
     requires fresh { AllByRecursion (HasNoId held.old.keys) series.items }
     requires distinct { IsDistinct (pointwise nat_eq) series.items }
     requires room { length series.items ≤ spare held.old }
@@ -45,7 +44,7 @@ pub fn hold_all(held: &mut IndexSet<SeriesKey, RandomState>, series: Vec<SeriesK
     }
 }
 
-fn hold(held: &mut IndexSet<SeriesKey, RandomState>, key: SeriesKey)
+fn hold(held: &mut IndexSet<SeriesKey, Seed>, key: SeriesKey)
     requires fresh { HasNoId held.old.keys key }
     requires room { 0 < spare held.old }
     ensures keys { held.new.keys ≡ held.old.keys ++ key ∷ [] }

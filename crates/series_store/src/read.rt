@@ -15,8 +15,7 @@ use gate_log::LogFault;
 use indexmap::IndexSet;
 use shard_disk::{Damage, Why};
 use std::alloc::{AllocError, Global};
-use std::hash::RandomState;
-use tsdb_types::SeriesKey;
+use tsdb_types::{Seed, SeriesKey};
 
 /// The most series that a file may have.
 const MOST_SERIES: usize = 10_000_000;
@@ -24,15 +23,15 @@ const MOST_SERIES: usize = 10_000_000;
 /// The series of the records of a file.
 pub fn series_of(
     alloc: Global,
-    hashing: RandomState,
+    seed: Seed,
     no: u32,
     records: &[Vec<u8>],
-) -> Result<IndexSet<SeriesKey, RandomState>, LogFault>
+) -> Result<IndexSet<SeriesKey, Seed>, LogFault>
     ensures found { IfOk result (λ held. Hold (bodies records.now) held.keys) }
     ensures strange { (damage : Damage) → result ≡ Err (LogFault.Damaged damage) → StandsBehind damage no (bodies records.now) }
     ensures no_fault { IsErrOf result LogFault.Fault → ⊥ }
 {
-    let mut held = IndexSet::with_hasher(alloc, hashing);
+    let mut held = IndexSet::with_hasher(alloc, seed);
     let mut gate = 0u64;
     for record in records {
         if !follow(alloc, &mut held, record)? {
@@ -52,7 +51,7 @@ pub fn series_of(
 }
 
 /// Holds the series of a record, where it may follow. Else which ones are held is open.
-fn follow(alloc: Global, held: &mut IndexSet<SeriesKey, RandomState>, body: &[u8]) -> Result<bool, AllocError>
+fn follow(alloc: Global, held: &mut IndexSet<SeriesKey, Seed>, body: &[u8]) -> Result<bool, AllocError>
     requires { length held.old.keys ≤ most_series }
     ensures follows { IfOk result (λ follows. IsTrue follows → Takes held.old.keys body.now held.new.keys) }
     ensures none { IfOk result (λ follows. follows ≡ false → MayNotFollow held.old.keys body.now) }
@@ -72,7 +71,7 @@ fn follow(alloc: Global, held: &mut IndexSet<SeriesKey, RandomState>, body: &[u8
 /// Holds so many series, of which these are the bytes and nothing else, where none is held.
 fn hold_each(
     alloc: Global,
-    held: &mut IndexSet<SeriesKey, RandomState>,
+    held: &mut IndexSet<SeriesKey, Seed>,
     bytes: &[u8],
     count: u32,
 ) -> Result<bool, AllocError>

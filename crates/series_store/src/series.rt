@@ -12,15 +12,14 @@ use gate_log::{Log, LogFault};
 use indexmap::IndexSet;
 use shard_disk::{Disk, Trouble};
 use std::alloc::{AllocError, Global};
-use std::hash::RandomState;
 use std::marker::Model;
-use tsdb_types::SeriesKey;
+use tsdb_types::{Seed, SeriesKey};
 
 /// The series of a directory. The id of a series is its place in the file, counted from 0 over all records.
 #[derive(Drop)]
 pub struct Series {
     alloc: Global,
-    keys: IndexSet<SeriesKey, RandomState>,
+    keys: IndexSet<SeriesKey, Seed>,
     log: Log,
 }
 
@@ -45,15 +44,15 @@ impl Series {
     ghost use Rattle.series_store.specs.Lists.{HasId, HasNoId, IsList, MayAdd};
     ghost use Rattle.series_store.specs.Reading.{IsWrong};
 
-    /// No series yet, in a log without a record. What it hashes by is the caller's: clients choose the series.
-    pub fn new(alloc: Global, hashing: RandomState, log: Log) -> Series
+    /// No series yet, in a log without a record. The seed of the hashes is one that clients don't know: they choose the series.
+    pub fn new(alloc: Global, seed: Seed, log: Log) -> Series
         requires { IsEmptyLog log }
         ensures keys { result.keys ≡ [] }
         ensures log { result.log ≡ log }
     {
         Series {
             alloc,
-            keys: IndexSet::with_hasher(alloc, hashing),
+            keys: IndexSet::with_hasher(alloc, seed),
             log,
         }
     }
@@ -61,7 +60,7 @@ impl Series {
     /// The series of a file, which is made durable before it answers.
     pub fn read<D: Disk>(
         alloc: Global,
-        hashing: RandomState,
+        seed: Seed,
         disk: &mut D,
         no: u32,
     ) -> Result<Series, LogFault>
@@ -77,7 +76,7 @@ impl Series {
         ensures ages { Ages (D.health disk.old) (D.health disk.new) }
     {
         let (log, records) = Log::read(alloc, disk, no)?;
-        let keys = series_of(alloc, hashing, no, &records)?;
+        let keys = series_of(alloc, seed, no, &records)?;
         Ok(Series { alloc, keys, log })
     }
 

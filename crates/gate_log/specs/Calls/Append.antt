@@ -2,7 +2,7 @@
 use Rattle.std.specs.Prelude.{◌≡◌, ℕ, ◌+◌, List, [], ◌∷◌, ◌++◌, length, Option, None, Result, IsTrue, OnOk, OnErr, IsErrOf}
 use Rattle.shard_disk.specs.Crash.{Crashes, Everywhere, Leaves}
 use Rattle.shard_disk.specs.Directory.{Directory, ChangesAt, Ends}
-use Rattle.shard_disk.specs.Health.{Ages, Failed}
+use Rattle.shard_disk.specs.Health.{HasCause}
 use Rattle.shard_disk.specs.declared.disk.Disk.{Ghosts}
 use Rattle.shard_disk.specs.declared.trouble.Trouble.{Trouble}
 use Rattle.shard_disk.specs.declared.trouble.Trouble.TheVariants.{Fault}
@@ -39,5 +39,4 @@ pub record Appends {D R W : Type 0} (g : Ghosts D R W) (body : List ℕ) (old ne
   pub placed : IsTrue g.tells → IsPlaced (g.files disk') new
   pub kept : KeepsFile (IsTrue g.tells) old new (g.files disk) (g.files disk')
   pub handed_out : g.handed_out disk' ≡ g.handed_out disk
-  pub ages : Ages (g.health disk) (g.health disk')
-  pub fault : IsErrOf result Fault → Failed (g.health disk) (g.health disk')
+  pub fault : HasCause result (g.health disk) (g.health disk')

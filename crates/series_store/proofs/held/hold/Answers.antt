@@ -3,8 +3,8 @@ use Rattle.series_store.proofs.ListLemmas.{none_there}
 use Rattle.series_store.proofs.held.hold.Goals as goal
 
 holds : {T E P : Type 0} (r : Result T E) → IsOk r → OnOk r P → P
-holds (Ok x) yes p = p
-holds (Err e) yes p = cc yes
+holds (Ok x) is p = p
+holds (Err e) is p = cc is
 
 pub returns-clause-keys : goal.returns-clause-keys
 returns-clause-keys c =

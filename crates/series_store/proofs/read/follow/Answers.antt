@@ -29,7 +29,7 @@ returns-clause-follows c =
     let body = c.in-Some.ensures.found ∙ ap (λ (n : ℕ). bytes_of_u32 n ++ c.in-Some.rest.now) (sym all.3) ∙ ap (λ (l : List ℕ). bytes_of_u32 (length all.0) ++ l) all.4 in
     record {
       more = all.0;
-      written = record { keys = all.1; room = all.2; short = omega (arith, ap length body, c.if-body.false, c.len-body.ensures) };
+      written = record { keys = all.1; room = all.2; short = omega (arith, ap length body, c.if-body.false) };
       are = body;
       behind = all.5;
       sound = record { distinct = distinct yes; few = omega (arith, ap length all.5, length-append c.args.held.now.keys all.0, all.3, c.if-count-len.false, c.len.ensures.len, c.requires) };

@@ -10,7 +10,7 @@ use Rattle.series_store.proofs.HoldLemmas.{folded_none, folded_more, stands_behi
 use Rattle.series_store.proofs.read.series_of.Goals as goal
 
 pub loop-record-init : goal.loop-record-init
-loop-record-init c = folded_none c.new-held.result.keys c.new-held.ensures.empty
+loop-record-init c = folded_none c.with_hasher-held.result.keys c.with_hasher-held.ensures.empty
 
 pub loop-record-preserved : goal.loop-record-preserved
 loop-record-preserved c =

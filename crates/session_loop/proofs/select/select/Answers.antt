@@ -1,5 +1,7 @@
 -- By what the store tells when a view begins and ends.
-use Rattle.std.proofs.Common.{ℕ, subst, List, ap, ◌∙◌}
+use Rattle.std.proofs.Common.{◌≡◌, ℕ, subst, List, ap, ◌∙◌, Result, Ok, Err}
+use Rattle.std.specs.Prelude.{IsErrOf}
+use Rattle.store_trait.specs.declared.fault.ViewFault.TheVariants as fault
 use Rattle.store_trait.specs.declared.fault.ViewFault.{ViewFault}
 use Rattle.store_trait.specs.Calls.View.{Ends, ViewHasCause, without}
 use Rattle.session_model.specs.declared.statement.Statement.TheVariants.{Select as Selects}
@@ -8,6 +10,14 @@ use Rattle.session_loop.specs.Steps.{stored}
 use Rattle.session_loop.specs.Texts.{IsTextOf, reply_of_view}
 use Rattle.session_loop.proofs.SelectLemmas.{view_serves, view_refused, view_memory, loan_back}
 use Rattle.session_loop.proofs.select.select.Goals as goal
+
+quiet_ok : {V : Type 0} (r : Result V ViewFault) (view : V) → r ≡ Ok view → ¬ (IsErrOf r fault.Fault)
+quiet_ok (Ok v) view is = λ wrong. cc wrong
+quiet_ok (Err e) view is = cc is
+
+quiet_memory : {V : Type 0} (r : Result V ViewFault) (why : ViewFault) → r ≡ Err why → why ≡ fault.Memory → ¬ (IsErrOf r fault.Fault)
+quiet_memory (Ok v) why is memory = cc is
+quiet_memory (Err e) why is memory = λ wrong. cc (is, memory, wrong)
 
 pub returns-in-Ok-clause-served : goal.returns-in-Ok-clause-served
 returns-in-Ok-clause-served g c =
@@ -30,7 +40,7 @@ returns-in-Ok-clause-served g c =
       all = c.all_of-need.ensures.all;
       begins = ok.ok;
       kept = ok.kept;
-      ages = ok.ages;
+      still = c.begin_view.ensures.quiet (quiet_ok _ _ c.in-Ok.is);
       fresh = ok.fresh;
       found = c.rows_of-rows.ensures.ok;
       cause = c.rows_of-rows.ensures.fault;
@@ -48,7 +58,7 @@ returns-in-Err-Memory-clause-served g c =
     let told = g.S.Store.told in
     let health = g.S.Store.health in
     view_memory (stored told health c.args.store.now) (stored told health c.begin_view.new.self) (Selects c.args.field.now c.args.measurement) c.out_of_memory.new.self
-    c.out_of_memory.ensures e.kept e.err e.ages
+    c.out_of_memory.ensures e.kept e.err (c.begin_view.ensures.quiet (quiet_memory _ _ c.in-Err-Memory.is c.in-Err-Memory.field-0-is))
 
 pub returns-clause-served : goal.returns-clause-served
 returns-clause-served g c =
