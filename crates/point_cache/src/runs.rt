@@ -40,7 +40,7 @@ impl Runs {
     ghost use Rattle.std.specs.List.{AllByRecursion};
     ghost use Rattle.tsdb_types.specs.Keys.{key_of};
     ghost use Rattle.tsdb_types.specs.declared.point.Point.{Point};
-    ghost use Rattle.point_cache.specs.Cached.{AreAscending, IsRun, points_at};
+    ghost use Rattle.point_cache.specs.Cached.{AreAscending, IsRun, count, points_at};
     ghost use Rattle.point_cache.specs.Leaving.{IsFrozen, points_without};
     ghost use Rattle.point_cache.specs.Staged.{Among, AreSettled, KeysApart, lives, nexts, plain, staged_at};
     ghost use Rattle.point_cache.specs.Steps.{AddsKey, Grows, FindsKey, HasKey, IsFoundOf, IsPlaceBefore, Settles, StagesAt, WillSet};
@@ -215,6 +215,7 @@ impl Runs {
         ensures plain { self.new ≡ record { entries = plain (lives self.new.entries); touched = [] } }
         ensures points { (other : List ℕ) → points_at (lives self.new.entries) other ≡ points_without key.now from to other (points_at (lives self.old.entries) other) }
         ensures each { AllByRecursion IsRun (lives self.old.entries) → AllByRecursion IsRun (lives self.new.entries) }
+        ensures fewer { count (lives self.new.entries) ≤ count (lives self.old.entries) }
     {
         if let Some(place) = self.map.get_index_of(key) {
             let taken = remove_at(&mut self.map, place, key, from, to);
