@@ -1,1 +1,2 @@
+mod NumbersLemmas
 pub mod UntoldLemmas

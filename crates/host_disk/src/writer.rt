@@ -1,9 +1,8 @@
 ghost use Rattle.std.specs.Prelude.{false, []};
 ghost use Rattle.host_disk.specs.Untold.{stage_of};
 
+use crate::FolderFile;
 use shard_disk::{Fault, Trouble, Writer};
-use std::fs::File;
-use std::io::Write;
 
 /// How far a file is.
 #[derive(Clone, Copy, Debug, PartialEq, Eq)]
@@ -15,15 +14,17 @@ pub(crate) enum Progress {
 
 /// A file of the folder that isn't adopted yet. It tells nothing of its content.
 #[derive(Drop)]
-pub struct HostWriter {
-    pub(crate) file: File,
+pub struct HostWriter<F> {
+    pub(crate) file: F,
     /// The number in its name.
     pub(crate) no: u64,
+    /// How many bytes were appended.
+    pub(crate) len: u64,
     pub(crate) progress: Progress,
     pub(crate) faults: u64,
 }
 
-impl Writer for HostWriter {
+impl<F: FolderFile + Send> Writer for HostWriter<F> {
     ghost tells = { false };
 
     ghost content = { λ _. [] };
@@ -35,18 +36,19 @@ impl Writer for HostWriter {
 
     fn append(&mut self, bytes: &[u8]) -> Result<(), Trouble> {
         // A short write goes on, an interrupted one is tried again.
-        if self.file.write_all(bytes).is_err() {
+        if self.file.write_all_at(bytes, self.len).is_err() {
             self.progress = Progress::Refused;
             self.faults = self.faults.saturating_add(1);
             return Err(Trouble::Fault);
         }
+        self.len = self.len.wrapping_add(bytes.len() as u64);
         self.progress = Progress::Open;
         Ok(())
     }
 
     fn finish(&mut self) -> Result<(), Fault> {
         // The bytes are durable before the file gets its number.
-        if self.file.sync_all().is_err() {
+        if self.file.sync().is_err() {
             self.progress = Progress::Refused;
             self.faults = self.faults.saturating_add(1);
             return Err(Fault);

@@ -2,7 +2,7 @@
 use Rattle.std.proofs.Common.{◌≡◌, ◌≢◌, ⊎_elim, ℕ, List, [], ◌∷◌, ◌++◌, length, Bool, true, false, cond, eqb, refl, sym, ◌∙◌, ap, subst, Option, Vec}
 use Rattle.std.specs.Prelude.{reverse, IsSome}
 use Rattle.std.specs.declared.alloc.Global.{Global}
-use Rattle.std.specs.declared.option.Option.TheVariants.{Some}
+use Rattle.std.specs.declared.option.Option.TheVariants.{None, Some}
 use Rattle.std.proofs.lemmas.Bool.{cases_eq, false≢true}
 use Rattle.std.specs.BTreeMap as tree
 use Rattle.std.specs.BTreeMap.{BTreeMap}
@@ -15,7 +15,7 @@ use Rattle.shard_disk.specs.Directory.{Directory, ChangesAt, Appears, IfThere, O
 use Rattle.shard_disk.proofs.Steps.{inserted, get_inserted, get_inserted_other, get_removed, get_removed_other}
 use Rattle.mem_disk.specs.declared.change.Change.{Change}
 use Rattle.mem_disk.specs.declared.change.Change.TheVariants.{Added, Wrote, Removed}
-use Rattle.mem_disk.specs.History.{bytes_of, reads, settled, written}
+use Rattle.mem_disk.specs.History.{Sets, adopted_after, adopted_left, bytes_of, reads, reads_left, settled, written}
 use Rattle.mem_disk.proofs.Changes.{newest_first}
 use Rattle.mem_disk.proofs.Settled.{test_same, test_apart, written_other}
 
@@ -36,6 +36,39 @@ module _ (changes changes' : List Change) (change : Change) (is : changes' ≡ c
 
   pub settled_now : (n : ℕ) → settled n (change ∷ reverse changes) ≡ true → settled n (reverse changes') ≡ true
   settled_now n so = ap (λ (l : List Change). settled n l) newest ∙ so
+
+  -- a change that neither puts a file in nor takes one out
+  pub adopted_kept : adopted_after (change ∷ reverse changes) ≡ adopted_after (reverse changes) → adopted_after (reverse changes') ≡ adopted_after (reverse changes)
+  adopted_kept unseen = ap (λ (l : List Change). adopted_after l) newest ∙ unseen
+
+  pub adopted_set : (number : ℕ) (value : Bool) → adopted_after (change ∷ reverse changes) ≡ (λ n. cond (eqb number n) value (adopted_after (reverse changes) n))
+      → Sets number value (adopted_after (reverse changes)) (adopted_after (reverse changes'))
+  adopted_set number value is_set = record {
+    here = ap (λ (l : List Change). adopted_after l number) newest ∙ ap (λ (set : ℕ → Bool). set number) is_set ∙ ap (λ (t : Bool). cond t value (adopted_after (reverse changes) number)) (test_same number number refl);
+    others = λ n apart. ap (λ (l : List Change). adopted_after l n) newest ∙ ap (λ (set : ℕ → Bool). set n) is_set
+        ∙ ap (λ (t : Bool). cond t value (adopted_after (reverse changes) n)) (test_apart number n (λ same. apart (sym same)));
+  }
+
+-- a set of which one number was taken out, or was never in
+pub never_in : (number : ℕ) (value : Bool) (old : ℕ → Bool) → old number ≡ value → Sets number value old old
+never_in number value old is = record { here = is; others = λ n apart. refl }
+
+-- a file that isn't there isn't adopted
+pub not_adopted : (past : List Change) (n : ℕ) → get (reads past) n ≡ None → adopted_after past n ≡ false
+not_adopted past n gone =
+    is_false (adopted_after past n) (λ is. false≢true (subst (λ (o : Option (List ℕ)). IsSome o) gone (adopted_left past n is (reads past) (reads_left past))))
+  where
+    is_false : (b : Bool) → (b ≡ true → ⊥) → b ≡ false
+    is_false true never = absurd (never refl)
+    is_false false never = refl
+
+-- the numbers that a set lacks are adopted no more than before
+pub none_adopted : (number : ℕ) (value : Bool) (old new : ℕ → Bool) (n : ℕ) → Sets number value old new → (n ≡ number → value ≡ false) → old n ≡ false → new n ≡ false
+none_adopted number value old new n sets here was =
+    ⊎_elim
+    (λ same. ap new same ∙ sets.here ∙ here same)
+    (λ apart. sets.others n apart ∙ was)
+    (cases_eq n number)
 
 -- a file that isn't the new one was there
 pub was_other : (changes changes' : List Change) (number : ℕ) (copy : Vec ℕ Global) → changes' ≡ changes ++ Added number copy ∷ [] → (n : ℕ) → n ≢ number → IsSome (get (reads (reverse changes')) n) → IsSome (get (reads (reverse changes)) n)

@@ -1,9 +1,10 @@
 -- Facts about a result.
-use Rattle.std.proofs.Common.{◌≡◌, ℕ, ◌+◌, ◌≤◌, Bool, true, false, cond, sym, ◌∙◌, ap, arith, Option, Some, None}
+use Rattle.std.proofs.Common.{◌≡◌, ℕ, ◌+◌, ◌≤◌, Bool, true, false, cond, refl, sym, ◌∙◌, ap, arith, Option, Some, None}
 use Rattle.std.proofs.lemmas.Bool.{false≢true}
 use Rattle.std.specs.Prelude.{OnOk, OnErr, IfOk, is_err, is_some, not, if◌then◌else◌}
 use Rattle.std.specs.declared.result.Result.{Result}
 use Rattle.std.specs.declared.result.Result.TheVariants.{Ok, Err}
+use Rattle.shard_disk.specs.HandedOut.{HandedOut}
 
 pub on_ok_then : {T E A B : Type 0} (r : Result T E) → (A → B) → OnOk r A → OnOk r B
 on_ok_then (Ok x) leads a = leads a
@@ -37,3 +38,14 @@ some_if (Some v) none n m test some is = is
 -- a test that a call answers, as it was met
 pub flips : {a b c : Bool} → a ≡ b → a ≡ c → b ≡ c
 flips is met = sym is ∙ met
+
+pub none_when : {V : Type 0} (o : Option V) → is_some o ≡ false → o ≡ None
+none_when None not_some = refl
+none_when (Some v) not_some = absurd (false≢true (sym not_some))
+
+abbrev pub handed : ℕ → (ℕ → ℕ) → (ℕ → Bool) → HandedOut
+handed next readers adopted = record { next_number = next; readers = readers; adopted = adopted }
+
+-- the same was handed out where the next number and the adopted files are the same
+pub same_handed : (next next' : ℕ) (readers : ℕ → ℕ) (adopted adopted' : ℕ → Bool) → next' ≡ next → adopted' ≡ adopted → handed next' readers adopted' ≡ handed next readers adopted
+same_handed next next' readers adopted adopted' number set = λ i. record { next_number = number i; readers = readers; adopted = set i }

@@ -7,7 +7,7 @@ use Rattle.shard_disk.specs.Directory.{Directory}
 use Rattle.shard_disk.specs.HandedOut.{HandedOut}
 use Rattle.shard_disk.specs.Health.{Health}
 use Rattle.mem_disk.specs.HealthOf.{disk_health}
-use Rattle.mem_disk.specs.History.{crashes_of, reads}
+use Rattle.mem_disk.specs.History.{adopted_after, crashes_of, reads}
 use Rattle.mem_disk.specs.declared.change.Change.{Change}
 use Rattle.mem_disk.specs.declared.disk.MemDisk.{MemDisk}
 use Rattle.mem_disk.specs.declared.fail.Fail.{Fail}
@@ -29,7 +29,7 @@ left_of disk = crashes_of (changes_of disk)
 
 -- the next number, and the readers that are out
 abbrev pub handed_out_of : MemDisk → HandedOut
-handed_out_of disk = record { next_number = disk.contents.next; readers = λ n. unwrap_or (tree.get nat_cmp disk.readers n) 0 }
+handed_out_of disk = record { next_number = disk.contents.next; readers = λ n. unwrap_or (tree.get nat_cmp disk.readers n) 0; adopted = adopted_after (reverse (changes_of disk)) }
 
 abbrev pub health_of : MemDisk → Health
 health_of disk = disk_health disk.calls

@@ -1,11 +1,14 @@
 -- What a history of changes makes of a directory: how it reads, and what a crash may leave.
-use Rattle.std.specs.Prelude.{◌≡◌, ◌⊎◌, ◌==◌, ℕ, ◌≤◌, Bool, true, false, if◌then◌else◌, List, [], ◌∷◌, length, take, reverse, Option, Some, None, Vec}
+use Rattle.std.specs.Prelude.{◌≡◌, ◌≢◌, ◌⊎◌, ◌==◌, ℕ, ◌≤◌, Bool, true, false, if◌then◌else◌, List, [], ◌∷◌, length, take, reverse, Option, Some, None, IsSome, Vec}
 use Rattle.std.specs.declared.alloc.Global.{Global}
-use Rattle.std.proofs.Common.{inl, inr, refl, sym, subst, arith}
+use Rattle.std.proofs.Common.{inl, inr, ⊎_elim, refl, sym, ◌∙◌, ap, subst, arith, cond, eqb, eq-eqb}
+use Rattle.std.proofs.lemmas.Bool.{cases_eq, false≢true}
+use Rattle.std.proofs.lemmas.Bool.Decides.{nat_tests}
 use Rattle.std.specs.FinMap.{empty, get, insert, remove}
 use Rattle.std.proofs.lemmas.List.{take_all}
 use Rattle.shard_disk.specs.Directory.{Directory, ChangesAt, Appears, Vanishes, MadeOrNot, IfThere, Torn, spliced}
 use Rattle.shard_disk.specs.Crash.{Crashes}
+use Rattle.shard_disk.specs.HandedOut.{KeepsAdopted}
 use Rattle.shard_disk.proofs.Steps.{changes_same, torn_at_same, torn_whole, get_inserted, get_inserted_other, inserted, removed}
 use Rattle.mem_disk.specs.declared.change.Change.{Change}
 use Rattle.mem_disk.specs.declared.change.Change.TheVariants.{Added, Offered, Wrote, Tore, Synced, Removed, Condemned}
@@ -53,6 +56,22 @@ settled n (Synced number ∷ past) = if number == n then true else settled n pas
 settled n (Removed number ∷ past) = settled n past
 settled n (Condemned number ∷ past) = settled n past
 
+-- the files that were put in and of which no removal was begun
+abbrev pub adopted_after : List Change → ℕ → Bool
+adopted_after [] = λ n. false
+adopted_after (Added number bytes ∷ past) = λ n. if number == n then true else adopted_after past n
+adopted_after (Offered number bytes ∷ past) = adopted_after past
+adopted_after (Wrote number at bytes ∷ past) = adopted_after past
+adopted_after (Tore number at m ∷ past) = adopted_after past
+adopted_after (Synced number ∷ past) = adopted_after past
+adopted_after (Removed number ∷ past) = λ n. if number == n then false else adopted_after past n
+adopted_after (Condemned number ∷ past) = λ n. if number == n then false else adopted_after past n
+
+-- one number is in the set or isn't, and each other is as it was
+pub record Sets (number : ℕ) (value : Bool) (old new : ℕ → Bool) : Type 0 where
+  pub here : new number ≡ value
+  pub others : (n : ℕ) → n ≢ number → new n ≡ old n
+
 -- the moments are the numbers of changes, of which the first are the oldest
 unfoldable pub crashes_of : List Change → Crashes
 crashes_of changes = record {
@@ -95,3 +114,63 @@ reads_left (Condemned number ∷ past) = (reads past, reads_left past, changes_s
 pub as_it_reads : (changes : List Change) → (crashes_of changes).now (reads (reverse changes))
 unfolding crashes_of
 as_it_reads changes = reads_left (reverse changes)
+
+-- a test of two numbers that are one, and of two that aren't
+pub choice_here : (a b : ℕ) (answer rest : Bool) → a ≡ b → cond (eqb a b) answer rest ≡ answer
+choice_here a b answer rest same = ap (λ (t : Bool). cond t answer rest) (eq-eqb a b same)
+
+pub choice_other : (a b : ℕ) (answer rest : Bool) → a ≢ b → cond (eqb a b) answer rest ≡ rest
+choice_other a b answer rest apart = ap (λ (t : Bool). cond t answer rest) test
+  where
+    test : eqb a b ≡ false
+    test = grind (arith, nat_tests)
+
+turned : (a b : ℕ) → a ≢ b → b ≢ a
+turned a b apart is = apart (sym is)
+
+there_by : (file other : Option (List ℕ)) → file ≡ other → IsSome other → IsSome file
+there_by file other is there = subst (λ (o : Option (List ℕ)). IsSome o) (sym is) there
+
+stays_there : (step : List ℕ → List ℕ → Type 0) (old new : Option (List ℕ)) → IsSome old → IfThere step old new → IsSome new
+stays_there step None new there made = absurd (false≢true there)
+stays_there step (Some old) None there made = absurd made
+stays_there step (Some old) (Some new) there made = refl
+
+-- a step of one file that leaves it there where it was
+stays : (past : List Change) (number n : ℕ) (d c : Directory) → (number ≡ n → IsSome (get d number) → IsSome (get c number)) → ((k : ℕ) → k ≢ number → get c k ≡ get d k) → IsSome (get d n) → IsSome (get c n)
+stays past number n d c here others there = elim (cases_eq number n) [
+  | inl same ↦ subst (λ (k : ℕ). IsSome (get c k)) same (here same (subst (λ (k : ℕ). IsSome (get d k)) (sym same) there))
+  | inr apart ↦ there_by (get c n) (get d n) (others n (turned number n apart)) there
+]
+
+-- every crash leaves a file that is adopted
+pub adopted_left : (past : List Change) (n : ℕ) → adopted_after past n ≡ true → (c : Directory) → leaves past c → IsSome (get c n)
+adopted_left [] n is c left = absurd (false≢true is)
+adopted_left (Added number bytes ∷ past) n is c left = elim (cases_eq number n) [
+  | inl same ↦ subst (λ (k : ℕ). IsSome (get c k)) same (there_by (get c number) (Some bytes.items) left.2.here refl)
+  | inr apart ↦ there_by (get c n) (get left.0 n) (left.2.others n (turned number n apart)) (adopted_left past n (sym (choice_other number n true (adopted_after past n) apart) ∙ is) left.0 left.1)
+]
+adopted_left (Offered number bytes ∷ past) n is c left =
+    stays past number n left.0 c
+    (λ same there. ⊎_elim (λ kept. there_by (get c number) (get left.0 number) kept there) (λ appears. there_by (get c number) (Some bytes.items) appears refl) left.2.here)
+    left.2.others (adopted_left past n is left.0 left.1)
+adopted_left (Wrote number at bytes ∷ past) n is c left =
+    stays past number n left.0 c (λ same there. stays_there (Torn at (length bytes.items)) (get left.0 number) (get c number) there left.2.here) left.2.others (adopted_left past n is left.0 left.1)
+adopted_left (Tore number at m ∷ past) n is c left =
+    stays past number n left.0 c (λ same there. stays_there (Torn at m) (get left.0 number) (get c number) there left.2.here) left.2.others (adopted_left past n is left.0 left.1)
+adopted_left (Synced number ∷ past) n is c left = adopted_left past n is c left.0
+adopted_left (Removed number ∷ past) n is c left = elim (cases_eq number n) [
+  | inl same ↦ absurd (false≢true (sym (choice_here number n false (adopted_after past n) same) ∙ is))
+  | inr apart ↦ there_by (get c n) (get left.0 n) (left.2.others n (turned number n apart)) (adopted_left past n (sym (choice_other number n false (adopted_after past n) apart) ∙ is) left.0 left.1)
+]
+adopted_left (Condemned number ∷ past) n is c left = elim (cases_eq number n) [
+  | inl same ↦ absurd (false≢true (sym (choice_here number n false (adopted_after past n) same) ∙ is))
+  | inr apart ↦ there_by (get c n) (get left.0 n) (left.2.others n (turned number n apart)) (adopted_left past n (sym (choice_other number n false (adopted_after past n) apart) ∙ is) left.0 left.1)
+]
+
+pub keeps_all : (changes : List Change) (next : ℕ) (readers : ℕ → ℕ) → KeepsAdopted (reads (reverse changes)) (crashes_of changes) (record { next_number = next; readers = readers; adopted = adopted_after (reverse changes) })
+unfolding crashes_of
+keeps_all changes next readers = record {
+  read = λ n is. adopted_left (reverse changes) n is (reads (reverse changes)) (reads_left (reverse changes));
+  left = λ n is c now. adopted_left (reverse changes) n is c now;
+}

@@ -6,7 +6,7 @@ ghost use Rattle.std.specs.BTreeSet as set;
 ghost use Rattle.std.specs.BTreeSet.{btree_set_len};
 ghost use Rattle.std.specs.FinMap as map;
 ghost use Rattle.std.specs.Ordering.{nat_cmp};
-ghost use Rattle.mem_disk.specs.History.{bytes_of, reads, settled};
+ghost use Rattle.mem_disk.specs.History.{adopted_after, bytes_of, reads, settled};
 
 use crate::Change;
 use crate::bytes::overwrite;
@@ -29,13 +29,15 @@ pub(crate) struct Contents {
     ghost agrees: { (n : ℕ) → bytes_of (tree.get nat_cmp files n) ≡ map.get (reads (reverse changes.items)) n } by { Prim.hlevel props },
     ghost below: { (n : ℕ) → IsSome (map.get (reads (reverse changes.items)) n) → n < next } by { Prim.hlevel props },
     ghost clean: { (n : ℕ) → IsSome (map.get (reads (reverse changes.items)) n) → set.contains nat_cmp unsynced n ≡ false → settled n (reverse changes.items) ≡ true } by { Prim.hlevel props },
+    ghost marked: { (n : ℕ) → set.contains nat_cmp unmarked n ≡ false → adopted_after (reverse changes.items) n ≡ false } by { Prim.hlevel props },
     ghost room: { vec_len changes + (btree_set_len unsynced + (btree_map_len files + btree_set_len unmarked)) ≤ vec_capacity changes },
 }
 
 impl Contents {
     ghost use Rattle.shard_disk.specs.Crash.{Follows, IsDurable, Same};
     ghost use Rattle.shard_disk.specs.Directory.{Appears, ChangesAt, HasRange, IfThere, MadeOrNot, Overwritten, Torn, Vanishes};
-    ghost use Rattle.mem_disk.specs.History.{crashes_of};
+    ghost use Rattle.mem_disk.specs.History.{Sets, crashes_of};
+    ghost use Rattle.mem_disk.specs.Shown.{HasAsRead, LeavesExactly, Offers, Shows};
 
     pub(crate) fn new(alloc: Global) -> Contents
         ensures empty { result.changes.items ≡ [] }
@@ -56,7 +58,8 @@ impl Contents {
         requires above { self.old.next ≤ no }
         requires limit { no + 1 < 2 ^ 32 }
         ensures file { OnOk result (ChangesAt no (Appears bytes.now) (reads (reverse self.old.changes.items)) (reads (reverse self.new.changes.items))) }
-        ensures crash { OnOk result (Follows (ChangesAt no (Appears bytes.now)) (crashes_of self.old.changes.items) (crashes_of self.new.changes.items)) }
+        ensures crash { OnOk result (LeavesExactly (ChangesAt no (Appears bytes.now)) (crashes_of self.old.changes.items) (crashes_of self.new.changes.items)) }
+        ensures adopted { OnOk result (Sets no true (adopted_after (reverse self.old.changes.items)) (adopted_after (reverse self.new.changes.items))) }
         ensures next { OnOk result (self.new.next ≡ no + 1) }
         ensures err { OnErr result (self.new.changes.items ≡ self.old.changes.items) }
         ensures err_next { OnErr result (self.new.next ≡ self.old.next) }
@@ -80,25 +83,31 @@ impl Contents {
         Ok(())
     }
 
-    /// Notes an adoption that is refused after it was begun, where there is a number and room.
-    pub(crate) fn refuse(&mut self, bytes: &[u8])
+    /// Notes an adoption that is refused after it was begun. Where no number is left there is nothing to begin.
+    pub(crate) fn refuse(&mut self, bytes: &[u8]) -> Result<(), AllocError>
         ensures reads { reads (reverse self.new.changes.items) ≡ reads (reverse self.old.changes.items) }
         ensures crash { Follows (ChangesAt self.old.next (MadeOrNot (Appears bytes.now))) (crashes_of self.old.changes.items) (crashes_of self.new.changes.items) }
+        ensures shows { OnOk result (Offers false true self.old.next bytes.now (crashes_of self.old.changes.items) (crashes_of self.new.changes.items)) }
+        ensures adopted { adopted_after (reverse self.new.changes.items) ≡ adopted_after (reverse self.old.changes.items) }
         ensures next { self.old.next ≤ self.new.next }
+        ensures err { OnErr result (self.new.changes.items ≡ self.old.changes.items) }
+        ensures err_next { OnErr result (self.new.next ≡ self.old.next) }
     {
         if self.next == u32::MAX {
-            return;
+            return Ok(());
         }
-        let Ok(()) = self.offer(bytes) else {
-            return;
-        };
+        match self.offer(bytes) {
+            Ok(()) => Ok(()),
+            Err(AllocError) => Err(AllocError),
+        }
     }
 
     /// Notes it. Its number is passed over.
     fn offer(&mut self, bytes: &[u8]) -> Result<(), AllocError>
         requires { self.old.next + 1 < 2 ^ 32 }
         ensures reads { OnOk result (reads (reverse self.new.changes.items) ≡ reads (reverse self.old.changes.items)) }
-        ensures crash { OnOk result (Follows (ChangesAt self.old.next (MadeOrNot (Appears bytes.now))) (crashes_of self.old.changes.items) (crashes_of self.new.changes.items)) }
+        ensures crash { OnOk result (LeavesExactly (ChangesAt self.old.next (MadeOrNot (Appears bytes.now))) (crashes_of self.old.changes.items) (crashes_of self.new.changes.items)) }
+        ensures adopted { OnOk result (adopted_after (reverse self.new.changes.items) ≡ adopted_after (reverse self.old.changes.items)) }
         ensures next { OnOk result (self.new.next ≡ self.old.next + 1) }
         ensures err { OnErr result (self.new.changes.items ≡ self.old.changes.items) }
         ensures err_next { OnErr result (self.new.next ≡ self.old.next) }
@@ -120,7 +129,8 @@ impl Contents {
     pub(crate) fn write(&mut self, no: u32, at: u64, bytes: &[u8]) -> Result<(), AllocError>
         requires { HasRange (reads (reverse self.old.changes.items)) no at 0 }
         ensures written { OnOk result (ChangesAt no (IfThere (Overwritten at bytes.now)) (reads (reverse self.old.changes.items)) (reads (reverse self.new.changes.items))) }
-        ensures crash { OnOk result (Follows (ChangesAt no (IfThere (Torn at (length bytes.now)))) (crashes_of self.old.changes.items) (crashes_of self.new.changes.items)) }
+        ensures crash { OnOk result (LeavesExactly (ChangesAt no (IfThere (Torn at (length bytes.now)))) (crashes_of self.old.changes.items) (crashes_of self.new.changes.items)) }
+        ensures adopted { OnOk result (adopted_after (reverse self.new.changes.items) ≡ adopted_after (reverse self.old.changes.items)) }
         ensures err { OnErr result (self.new.changes.items ≡ self.old.changes.items) }
         ensures next { self.new.next ≡ self.old.next }
     {
@@ -140,21 +150,11 @@ impl Contents {
         Ok(())
     }
 
-    /// Notes a write that is refused after it was begun, where there is room.
-    pub(crate) fn fail_write(&mut self, no: u32, at: u64, bytes: &[u8])
-        ensures reads { reads (reverse self.new.changes.items) ≡ reads (reverse self.old.changes.items) }
-        ensures crash { Follows (ChangesAt no (IfThere (Torn at (length bytes.now)))) (crashes_of self.old.changes.items) (crashes_of self.new.changes.items) }
-        ensures next { self.new.next ≡ self.old.next }
-    {
-        let Ok(()) = self.tear(no, at, bytes.len() as u64) else {
-            return;
-        };
-    }
-
-    /// Notes it.
-    fn tear(&mut self, no: u32, at: u64, len: u64) -> Result<(), AllocError>
+    /// Notes a write that is refused after it was begun.
+    pub(crate) fn tear(&mut self, no: u32, at: u64, len: u64) -> Result<(), AllocError>
         ensures reads { OnOk result (reads (reverse self.new.changes.items) ≡ reads (reverse self.old.changes.items)) }
-        ensures crash { OnOk result (Follows (ChangesAt no (IfThere (Torn at len))) (crashes_of self.old.changes.items) (crashes_of self.new.changes.items)) }
+        ensures crash { OnOk result (LeavesExactly (ChangesAt no (IfThere (Torn at len))) (crashes_of self.old.changes.items) (crashes_of self.new.changes.items)) }
+        ensures adopted { OnOk result (adopted_after (reverse self.new.changes.items) ≡ adopted_after (reverse self.old.changes.items)) }
         ensures err { OnErr result (self.new.changes.items ≡ self.old.changes.items) }
         ensures next { self.new.next ≡ self.old.next }
     {
@@ -176,6 +176,8 @@ impl Contents {
         ensures durable { IsDurable (reads (reverse self.old.changes.items)) (crashes_of self.new.changes.items) no }
         ensures reads { reads (reverse self.new.changes.items) ≡ reads (reverse self.old.changes.items) }
         ensures crash { Follows Same (crashes_of self.old.changes.items) (crashes_of self.new.changes.items) }
+        ensures shows { Shows (HasAsRead no (reads (reverse self.old.changes.items))) (crashes_of self.old.changes.items) (crashes_of self.new.changes.items) }
+        ensures adopted { adopted_after (reverse self.new.changes.items) ≡ adopted_after (reverse self.old.changes.items) }
         ensures next { self.new.next ≡ self.old.next }
     {
         // Where nothing was written a crash leaves what a read gives as it is.
@@ -188,7 +190,8 @@ impl Contents {
     /// Takes a file out, if it is there.
     pub(crate) fn remove(&mut self, no: u32)
         ensures removed { ChangesAt no Vanishes (reads (reverse self.old.changes.items)) (reads (reverse self.new.changes.items)) }
-        ensures crash { Follows (ChangesAt no (MadeOrNot Vanishes)) (crashes_of self.old.changes.items) (crashes_of self.new.changes.items) }
+        ensures crash { LeavesExactly (ChangesAt no (MadeOrNot Vanishes)) (crashes_of self.old.changes.items) (crashes_of self.new.changes.items) }
+        ensures adopted { Sets no false (adopted_after (reverse self.old.changes.items)) (adopted_after (reverse self.new.changes.items)) }
         ensures next { self.new.next ≡ self.old.next }
     {
         if self.files.remove(&no).is_none() {
@@ -200,7 +203,8 @@ impl Contents {
     /// Notes a removal that is refused.
     pub(crate) fn condemn(&mut self, no: u32)
         ensures reads { reads (reverse self.new.changes.items) ≡ reads (reverse self.old.changes.items) }
-        ensures crash { Follows (ChangesAt no (MadeOrNot Vanishes)) (crashes_of self.old.changes.items) (crashes_of self.new.changes.items) }
+        ensures crash { LeavesExactly (ChangesAt no (MadeOrNot Vanishes)) (crashes_of self.old.changes.items) (crashes_of self.new.changes.items) }
+        ensures adopted { Sets no false (adopted_after (reverse self.old.changes.items)) (adopted_after (reverse self.new.changes.items)) }
         ensures next { self.new.next ≡ self.old.next }
     {
         // A second refusal adds nothing to what a crash may leave.

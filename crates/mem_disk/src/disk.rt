@@ -5,7 +5,7 @@ ghost use Rattle.std.specs.Option.{option_map};
 ghost use Rattle.std.specs.Ordering.{nat_cmp};
 ghost use Rattle.mem_disk.specs.Calls.{is_quiet};
 ghost use Rattle.mem_disk.specs.HealthOf.{disk_health};
-ghost use Rattle.mem_disk.specs.History.{as_it_reads, reads, crashes_of, now_counts, now_alone};
+ghost use Rattle.mem_disk.specs.History.{adopted_after, as_it_reads, reads, crashes_of, keeps_all, now_counts, now_alone};
 
 use crate::calls::DiskCalls;
 use crate::contents::Contents;
@@ -100,19 +100,22 @@ impl Disk for MemDisk {
     ghost use Rattle.std.specs.BTreeMap as tree;
     ghost use Rattle.std.specs.FinMap.{keys};
     ghost use Rattle.std.specs.Ordering.{nat_cmp};
-    ghost use Rattle.shard_disk.specs.Calls.Adopt.{Adopts, AdoptsNone};
+    ghost use Rattle.shard_disk.specs.Calls.Adopt.{Adopts, AdoptsNone, NeverBegan};
     ghost use Rattle.shard_disk.specs.Calls.Open.{Opens};
+    ghost use Rattle.shard_disk.specs.Calls.WriteAt.{WritesNone};
     ghost use Rattle.shard_disk.specs.Crash.{Follows, IsDurable, Same};
     ghost use Rattle.shard_disk.specs.Directory.{ChangesAt, HasFile, HasRange, IfThere, IsPresent, MadeOrNot, Overwritten, Torn, Vanishes, bytes_at};
-    ghost use Rattle.shard_disk.specs.HandedOut.{OneMoreReader};
-    ghost use Rattle.shard_disk.specs.Health.{Ages, Failed, FaultHasCause, HasCause, IsFresh, TakesOver};
+    ghost use Rattle.shard_disk.specs.HandedOut.{GivesUp, OneMoreReader};
+    ghost use Rattle.shard_disk.specs.Health.{FaultHasCause, HasCause, IsFresh, RefusalHasCause, TakesOver};
     ghost use Rattle.shard_disk.specs.Stage.{Finished, Open};
-    ghost use Rattle.mem_disk.specs.Called.{IsCalled, IsUncounted, is_fault, is_refused_by_fault};
+    ghost use Rattle.mem_disk.specs.Called.{IsCalled, IsCalledOrPutOff, IsUncounted, is_fault, is_memory, is_refused_by_fault, is_refused_for_memory};
     ghost use Rattle.mem_disk.specs.Closed.{closed_lowest_of, files_of, handed_out_of, health_of, left_of};
+    ghost use Rattle.mem_disk.specs.HandsOut.{HandsReader, HandsWriter};
     ghost use Rattle.mem_disk.specs.HealthOf.{device_health, disk_health};
-    ghost use Rattle.mem_disk.specs.History.{as_it_reads, crashes_of, now_alone, now_counts, reads};
+    ghost use Rattle.mem_disk.specs.History.{adopted_after, as_it_reads, crashes_of, keeps_all, now_alone, now_counts, reads};
     ghost use Rattle.mem_disk.specs.Progress.{stage_of};
-    ghost use Rattle.mem_disk.specs.Reads.{lowest_of, reads_of};
+    ghost use Rattle.mem_disk.specs.Reads.{lowest_of};
+    ghost use Rattle.mem_disk.specs.Shown.{HasAsRead, LeavesBut, LeavesExactly, Offers, Shows};
 
     type Reader = MemReader;
 
@@ -124,7 +127,7 @@ impl Disk for MemDisk {
 
     ghost crashes = { λ m. crashes_of m.contents.changes.items };
 
-    ghost handed_out = { λ m. record { next_number = m.contents.next; readers = λ n. unwrap_or (tree.get nat_cmp m.readers n) 0 } };
+    ghost handed_out = { λ m. record { next_number = m.contents.next; readers = λ n. unwrap_or (tree.get nat_cmp m.readers n) 0; adopted = adopted_after (reverse m.contents.changes.items) } };
 
     ghost health = { λ m. disk_health m.calls };
 
@@ -134,6 +137,8 @@ impl Disk for MemDisk {
 
     ghost as_read = { λ m told. as_it_reads m.contents.changes.items };
 
+    ghost keeps_adopted = { λ m told. keeps_all m.contents.changes.items _ _ };
+
     ghost numbered = { λ m n told there. m.contents.below n there };
 
     ghost counts_now = { λ m t c le now. now_counts m.contents.changes.items t c le now };
@@ -141,11 +146,9 @@ impl Disk for MemDisk {
     ghost only_now = { λ m c since. now_alone m.contents.changes.items c since };
 
     fn begin(&mut self) -> Result<MemWriter, Trouble>
-        ensures empty { IfOk result (λ writer. writer.bytes.items ≡ []) }
-        ensures open { IfOk result (λ writer. stage_of writer.progress ≡ Open) }
-        ensures fresh { IfOk result (λ writer. IsFresh (health_of self.old) (device_health writer.calls)) }
+        ensures ok { IfOk result (λ writer. HandsWriter self.old writer) }
         ensures files { files_of self.new ≡ files_of self.old }
-        ensures crash { Follows Same (left_of self.old) (left_of self.new) }
+        ensures crash { LeavesExactly Same (left_of self.old) (left_of self.new) }
         ensures handed_out { handed_out_of self.new ≡ handed_out_of self.old }
         ensures fault { HasCause result (health_of self.old) (health_of self.new) }
         ensures call { IsCalled (is_fault result) self.old self.new }
@@ -169,17 +172,21 @@ impl Disk for MemDisk {
         ensures refused { OnErr result (AdoptsNone writer.bytes.items
             (files_of self.old) (files_of self.new) (left_of self.old) (left_of self.new) (handed_out_of self.old) (handed_out_of self.new)) }
         ensures returned { IfErr result (λ refused. refused.0 ≡ writer) }
-        ensures memory_crash { IfErr result (λ refused. refused.1 ≡ Trouble.Memory → Follows Same (left_of self.old) (left_of self.new)) }
-        ensures memory_number { IfErr result (λ refused. refused.1 ≡ Trouble.Memory → handed_out_of self.new ≡ handed_out_of self.old) }
-        ensures memory_health { IfErr result (λ refused. refused.1 ≡ Trouble.Memory → health_of self.new ≡ health_of self.old) }
-        ensures ages { Ages (health_of self.old) (health_of self.new) }
-        ensures fault { IfErr result (λ refused. refused.1 ≡ Trouble.Fault → Failed (health_of self.old) (health_of self.new)) }
-        ensures call { IsCalled (is_refused_by_fault result) self.old self.new }
+        ensures memory { IfErr result (λ refused. refused.1 ≡ Trouble.Memory
+            → NeverBegan (left_of self.old) (left_of self.new) (handed_out_of self.old) (handed_out_of self.new)) }
+        ensures fault { RefusalHasCause result (health_of self.old) (health_of self.new) }
+        ensures shows { Offers (is_refused_for_memory result) (is_refused_by_fault result) (handed_out_of self.old).next_number writer.bytes.items (left_of self.old) (left_of self.new) }
+        ensures call { IsCalledOrPutOff (is_refused_for_memory result) (is_refused_by_fault result) self.old self.new }
     {
-        if self.calls.fails() {
-            self.contents.refuse(&writer.bytes);
+        if self.calls.will_fail() {
+            // What can't be noted isn't begun.
+            if let Err(AllocError) = self.contents.refuse(&writer.bytes) {
+                return Err((writer, Trouble::Memory));
+            }
+            self.calls.fail();
             return Err((writer, Trouble::Fault));
         }
+        self.calls.pass();
         let no = self.contents.next;
         if no == u32::MAX {
             return Err((writer, Trouble::Memory));
@@ -192,7 +199,7 @@ impl Disk for MemDisk {
 
     fn drop_writer(&mut self, writer: MemWriter)
         ensures files { files_of self.new ≡ files_of self.old }
-        ensures crash { Follows Same (left_of self.old) (left_of self.new) }
+        ensures crash { LeavesExactly Same (left_of self.old) (left_of self.new) }
         ensures handed_out { handed_out_of self.new ≡ handed_out_of self.old }
         ensures health { TakesOver (device_health writer.calls) (health_of self.old) (health_of self.new) }
         ensures uncounted { IsUncounted self.old self.new }
@@ -202,14 +209,11 @@ impl Disk for MemDisk {
 
     fn open(&mut self, no: u32) -> Result<MemReader, Trouble>
         requires { IsPresent (files_of self.old) no }
-        ensures ok { IfOk result (λ reader. Opens (IsTrue true) no (files_of self.old) (handed_out_of self.old) reader.bytes.items) }
-        ensures file { IfOk result (λ reader. reader.no ≡ no) }
-        ensures fresh { IfOk result (λ reader. IsFresh (health_of self.old) (device_health reader.calls)) }
-        ensures unread { IfOk result (λ reader. reads_of reader ≡ 0) }
+        ensures ok { IfOk result (λ reader. HandsReader no self.old reader) }
         ensures out { OnOk result (OneMoreReader no (handed_out_of self.old) (handed_out_of self.new)) }
         ensures refused { OnErr result (handed_out_of self.new ≡ handed_out_of self.old) }
         ensures files { files_of self.new ≡ files_of self.old }
-        ensures crash { Follows Same (left_of self.old) (left_of self.new) }
+        ensures crash { LeavesExactly Same (left_of self.old) (left_of self.new) }
         ensures fault { HasCause result (health_of self.old) (health_of self.new) }
         ensures call { IsCalled (is_fault result) self.old self.new }
     {
@@ -240,7 +244,7 @@ impl Disk for MemDisk {
         requires { 0 < (handed_out_of self.old).readers reader.no }
         ensures out { OneMoreReader reader.no (handed_out_of self.new) (handed_out_of self.old) }
         ensures files { files_of self.new ≡ files_of self.old }
-        ensures crash { Follows Same (left_of self.old) (left_of self.new) }
+        ensures crash { LeavesExactly Same (left_of self.old) (left_of self.new) }
         ensures health { TakesOver (device_health reader.calls) (health_of self.old) (health_of self.new) }
         ensures lowest { closed_lowest_of self.new ≡ lowest_of reader }
         ensures uncounted { IsUncounted self.old self.new }
@@ -256,17 +260,21 @@ impl Disk for MemDisk {
         requires { HasRange (files_of self.old) no at 0 }
         ensures written { OnOk result (ChangesAt no (IfThere (Overwritten at bytes.now)) (files_of self.old) (files_of self.new)) }
         ensures torn { ChangesAt no (IfThere (Torn at (length bytes.now))) (files_of self.old) (files_of self.new) }
-        ensures crash { Follows (ChangesAt no (IfThere (Torn at (length bytes.now)))) (left_of self.old) (left_of self.new) }
-        ensures memory { IsErrOf result Trouble.Memory → files_of self.new ≡ files_of self.old }
-        ensures memory_crash { IsErrOf result Trouble.Memory → Follows Same (left_of self.old) (left_of self.new) }
+        ensures crash { LeavesBut (is_memory result) (ChangesAt no (IfThere (Torn at (length bytes.now)))) (left_of self.old) (left_of self.new) }
+        ensures memory { IsErrOf result Trouble.Memory → WritesNone (files_of self.old) (files_of self.new) (left_of self.old) (left_of self.new) }
         ensures handed_out { handed_out_of self.new ≡ handed_out_of self.old }
         ensures fault { HasCause result (health_of self.old) (health_of self.new) }
-        ensures call { IsCalled (is_fault result) self.old self.new }
+        ensures call { IsCalledOrPutOff (is_memory result) (is_fault result) self.old self.new }
     {
-        if self.calls.fails() {
-            self.contents.fail_write(no, at, bytes);
+        if self.calls.will_fail() {
+            // What can't be noted isn't begun.
+            if let Err(AllocError) = self.contents.tear(no, at, bytes.len() as u64) {
+                return Err(Trouble::Memory);
+            }
+            self.calls.fail();
             return Err(Trouble::Fault);
         }
+        self.calls.pass();
         match self.contents.write(no, at, bytes) {
             Ok(()) => Ok(()),
             Err(AllocError) => Err(Trouble::Memory),
@@ -278,6 +286,7 @@ impl Disk for MemDisk {
         ensures durable { OnOk result (IsDurable (files_of self.old) (left_of self.new) no) }
         ensures files { files_of self.new ≡ files_of self.old }
         ensures crash { Follows Same (left_of self.old) (left_of self.new) }
+        ensures shows { Shows (HasAsRead no (files_of self.old)) (left_of self.old) (left_of self.new) }
         ensures handed_out { handed_out_of self.new ≡ handed_out_of self.old }
         ensures fault { FaultHasCause result (health_of self.old) (health_of self.new) }
         ensures call { IsCalled (is_err result) self.old self.new }
@@ -293,7 +302,7 @@ impl Disk for MemDisk {
         requires { HasRange (files_of self.old) no at (length out.old) }
         ensures read { OnOk result (HasFile (files_of self.old) no (λ file. out.new ≡ bytes_at file at (length out.old))) }
         ensures files { files_of self.new ≡ files_of self.old }
-        ensures crash { Follows Same (left_of self.old) (left_of self.new) }
+        ensures crash { LeavesExactly Same (left_of self.old) (left_of self.new) }
         ensures handed_out { handed_out_of self.new ≡ handed_out_of self.old }
         ensures fault { FaultHasCause result (health_of self.old) (health_of self.new) }
         ensures call { IsCalled (is_err result) self.old self.new }
@@ -312,7 +321,7 @@ impl Disk for MemDisk {
         ensures length { IfOk result (λ len. HasFile (files_of self.old) no (λ file. len ≡ length file)) }
         ensures known { OnOk result (no < (handed_out_of self.old).next_number) }
         ensures files { files_of self.new ≡ files_of self.old }
-        ensures crash { Follows Same (left_of self.old) (left_of self.new) }
+        ensures crash { LeavesExactly Same (left_of self.old) (left_of self.new) }
         ensures handed_out { handed_out_of self.new ≡ handed_out_of self.old }
         ensures fault { FaultHasCause result (health_of self.old) (health_of self.new) }
         ensures call { IsCalled (is_err result) self.old self.new }
@@ -327,8 +336,8 @@ impl Disk for MemDisk {
         requires { (handed_out_of self.old).readers no ≡ 0 }
         ensures removed { OnOk result (ChangesAt no Vanishes (files_of self.old) (files_of self.new)) }
         ensures refused { OnErr result (files_of self.new ≡ files_of self.old) }
-        ensures crash { Follows (ChangesAt no (MadeOrNot Vanishes)) (left_of self.old) (left_of self.new) }
-        ensures handed_out { handed_out_of self.new ≡ handed_out_of self.old }
+        ensures crash { LeavesExactly (ChangesAt no (MadeOrNot Vanishes)) (left_of self.old) (left_of self.new) }
+        ensures gone { GivesUp no (handed_out_of self.old) (handed_out_of self.new) }
         ensures fault { FaultHasCause result (health_of self.old) (health_of self.new) }
         ensures call { IsCalled (is_err result) self.old self.new }
     {
@@ -344,7 +353,7 @@ impl Disk for MemDisk {
         ensures numbers { IfOk result (λ numbers. numbers.items ≡ keys (files_of self.old)) }
         ensures known { IfOk result (λ numbers. All (λ no. no < (handed_out_of self.old).next_number) numbers.items) }
         ensures files { files_of self.new ≡ files_of self.old }
-        ensures crash { Follows Same (left_of self.old) (left_of self.new) }
+        ensures crash { LeavesExactly Same (left_of self.old) (left_of self.new) }
         ensures handed_out { handed_out_of self.new ≡ handed_out_of self.old }
         ensures fault { HasCause result (health_of self.old) (health_of self.new) }
         ensures call { IsCalled (is_fault result) self.old self.new }

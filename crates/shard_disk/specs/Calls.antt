@@ -1,2 +1,3 @@
 pub mod Adopt
 pub mod Open
+pub mod WriteAt

@@ -7,6 +7,7 @@ use Rattle.std.specs.Ordering.{nat_cmp}
 use Rattle.std.proofs.lemmas.Bool.{false≢true}
 use Rattle.mem_disk.specs.declared.change.Change.{Change}
 use Rattle.mem_disk.specs.History.{bytes_of, reads}
+use Rattle.mem_disk.proofs.Kept.{not_adopted}
 use Rattle.mem_disk.proofs.contents.Contents.new.Goals as goal
 
 none_yet : (changes : List Change) (n : ℕ) → changes ≡ [] → get (reads (reverse changes)) n ≡ None
@@ -20,5 +21,6 @@ invariant_of-result c = record {
   agrees = λ n. ap (λ es. bytes_of (lookup (tree.is_at (nat_cmp n)) es)) c.new.ensures.empty ∙ sym (none_yet c.new-2.result.items n c.new-2.ensures.items);
   below = λ n is. absent c.new-2.result.items n c.new-2.ensures.items is;
   clean = λ n is apart. absent c.new-2.result.items n c.new-2.ensures.items is;
+  marked = λ n apart. not_adopted (reverse c.new-2.result.items) n (none_yet c.new-2.result.items n c.new-2.ensures.items);
   room = omega (arith, c.new.ensures.len, c.new-2.ensures.len, c.new-3.ensures.len, c.new-4.ensures.len);
 }
