@@ -7,6 +7,8 @@ use Rattle.std.specs.Option.{option_or}
 use Rattle.std.specs.Ordering.{int_eq}
 use Rattle.std.proofs.lemmas.List.{reverse-append}
 use Rattle.std.proofs.lemmas.List.Elements.{All-from_recursion}
+use Rattle.std.specs.FinMap.Entries.{is_sorted-where_key, find-where_key}
+use Rattle.std.specs.Prelude.{filter, not, ◌&&◌}
 use Rattle.tsdb_types.specs.declared.point.Cell.{Cell}
 use Rattle.tsdb_types.specs.declared.value.Value.{Value}
 use Rattle.point_model.specs.declared.need.Need.{Need}
@@ -17,7 +19,8 @@ use Rattle.point_model.specs.Points.{Points, cell_cmp, value_at}
 use Rattle.point_model.specs.Rows.{Row}
 use Rattle.point_model.proofs.EffectLemmas.{overlay-append}
 use Rattle.merge_cursor.specs.Overlays.{AreInOrder, newest_value, overlay, time_cmp, value_of}
-use Rattle.merge_cursor.proofs.OrderLemmas.{sorted_fact, value_is_found}
+use Rattle.merge_cursor.proofs.OrderLemmas
+use Rattle.merge_cursor.proofs.OrderLemmas.{time_exact, sorted_fact, value_is_found}
 use Rattle.merge_cursor.proofs.OverlayLemmas.{is_overlay, one_overlay, same_rows}
 use Rattle.merge_cursor.proofs.StepLemmas.{none_after, same_time}
 use Rattle.merge_cursor.proofs.TurnLemmas.{overlay_turned}
@@ -107,6 +110,30 @@ values_in_order : (descending : Bool) (rows : List Row) → AreInOrder false row
 values_in_order false rows ordered time = refl
 values_in_order true rows ordered time = value_reverse rows time ordered
 
+hidden_or_not : (asked hidden : Bool) (o : Option Value) → cond (asked && not hidden) o None ≡ cond asked (cond hidden None o) None
+hidden_or_not false hidden o = refl
+hidden_or_not true true o = refl
+hidden_or_not true false o = refl
+
+-- the rows of a layer that are asked for and not hidden
+layer : (need : Need) (key : Key) (content : Content) (hidden : ℤ → Bool) (rows : List Row) → AreInOrder false rows
+    → ((time : ℤ) → content (cell_at key time) ≡ cond (hidden time) None (value_of rows time))
+    → AreRowsOf need key content (in_order need.descending (filter (λ (row : Row). is_asked need row.0 && not (hidden row.0)) rows))
+layer need key content hidden rows ordered has =
+    let test : ℤ → Bool = λ time. is_asked need time && not (hidden time) in
+    let kept : List Row = filter (λ (row : Row). test row.0) rows in
+    let ascend : AreInOrder false kept = sorted_fact (time_cmp false) kept (is_sorted-where_key (time_cmp false) test rows (OrderLemmas.sorted_test (time_cmp false) rows ordered)) in
+    record {
+      ordered = in_asked_order need.descending kept ascend;
+      values = λ time.
+          values_in_order need.descending kept ascend time
+          ∙ sym (value_is_found false kept time)
+          ∙ find-where_key (time_cmp false) test time (λ x tie. ap test (sym (time_exact false time x tie))) rows
+          ∙ ap (λ (o : Option Value). cond (test time) o None) (value_is_found false rows time)
+          ∙ hidden_or_not (is_asked need time) (hidden time) (value_of rows time)
+          ∙ ap (λ (o : Option Value). cond (is_asked need time) o None) (sym (has time));
+    }
+
 points_rows : (need : Need) (key : Key) (points : Points) → IsStrictlySortedBy cell_cmp (keys_of points) → AreRowsOf need key (value_at points) (rows_needed need points key)
 points_rows need key points sorted =
     let rows = rows_between need.from need.to points key in
@@ -126,4 +153,4 @@ given need key points newest sources sorted shows are =
     (points_rows need key points sorted)
 
 pub views_see : ViewsSee
-views_see = record { merged = merged; one = one; points = points_rows; given = given }
+views_see = record { layer = layer; merged = merged; one = one; points = points_rows; given = given }

@@ -1,5 +1,6 @@
 //! Runs of the program over desks in memory.
 mod faults;
+mod host;
 mod rows;
 
 use crate::{OpenGate, tsmd};

@@ -1,4 +1,4 @@
-use super::*;
+use shard_disk::{Damage, FormatFault, Why};
 use std::test::Fail;
 
 #[test]

@@ -1,10 +1,14 @@
-//! What every disk does, in a table. `mem_disk` and `host_disk` have this file alike.
+//! What every disk does, in a table that each implementation runs.
 ghost use Rattle.std.specs.Prelude.{◌≡◌, ◌≢◌, ℕ, IsTrue, IfOk, OnOk};
 ghost use Rattle.shard_disk.specs.Directory.{IsPresent};
 ghost use Rattle.shard_disk.specs.Stage.{Finished, Refused};
 
+use host_disk::HostDisk;
+use mem_disk::{Fuse, MemDisk};
 use shard_disk::{Disk, Reader, Trouble, Writer};
 use std::alloc::Global;
+use std::fs;
+use std::test::Fail;
 
 /// A file of these bytes, over which others are written at a place, and how it reads then.
 #[derive(Clone, Copy)]
@@ -61,10 +65,7 @@ const CASES: [Case; 7] = [
 ];
 
 /// What the first case wants that a disk doesn't meet. There is none where it meets them all.
-pub(super) fn first_unmet<D: Disk>(
-    alloc: Global,
-    disk: &mut D,
-) -> Result<Option<&'static [u8]>, Trouble>
+fn first_unmet<D: Disk>(alloc: Global, disk: &mut D) -> Result<Option<&'static [u8]>, Trouble>
     requires { (n : ℕ) → (D.handed_out disk.old).readers n ≡ 0 }
 {
     for case in &CASES {
@@ -155,4 +156,33 @@ fn read_reader<R: Reader>(alloc: Global, reader: &mut R) -> Result<Vec<u8>, Trou
     let mut bytes = vec![in alloc; 0; reader.len() as usize]?;
     reader.read_at(0, bytes.as_mut_slice())?;
     Ok(bytes)
+}
+
+#[test]
+fn a_disk_in_memory_meets_every_case(rt: HostRuntime) -> Result<(), Fail> {
+    let alloc = rt.alloc();
+    let mut disk = MemDisk::new(alloc, Vec::new(alloc));
+    assert_eq!(rt; first_unmet(alloc, &mut disk)?, None);
+    Ok(())
+}
+
+#[test]
+fn a_fuse_meets_every_case(rt: HostRuntime) -> Result<(), Fail> {
+    let alloc = rt.alloc();
+    let mut fuse = Fuse::new(MemDisk::new(alloc, Vec::new(alloc)), u64::MAX);
+    assert_eq!(rt; first_unmet(alloc, &mut fuse)?, None);
+    Ok(())
+}
+
+#[test]
+fn a_folder_meets_every_case(rt: HostRuntime) -> Result<(), Fail> {
+    let temporary = std::env::temp_dir(&rt)?;
+    let path = format!(in rt.alloc(); "{}/tsmd_disk_cases", temporary.as_path().to_string_lossy())?;
+    let path = path.as_str();
+    let _ = fs::remove_dir_all(&rt, path);
+    let mut disk = HostDisk::open(rt, path)?;
+    assert_eq!(rt; first_unmet(rt.alloc(), &mut disk)?, None);
+    drop(disk);
+    fs::remove_dir_all(&rt, path)?;
+    Ok(())
 }
