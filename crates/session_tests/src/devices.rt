@@ -1,12 +1,8 @@
 use session_io::{
-    Client, Clock, Closed, Desk, End, HostClock, HostSink, HostSource, MemClock, MemDesk, MemSink, MemSource, Report, Sink,
-    Source,
+    Client, Clock, Closed, Desk, End, MemClock, MemDesk, MemSink, MemSource, Report, Sink, Source,
 };
 use shard_disk::{Fault, Trouble};
-use std::alloc::Global;
-use std::fs::File;
 use std::test::Fail;
-use std::{env, fs, process};
 use tsdb_types::Time;
 
 #[test]
@@ -81,29 +77,5 @@ fn desk_hands_out_each_client_once(rt: HostRuntime) -> Result<(), Fail> {
     assert_eq!(rt; closed.len(), 1);
     let Closed::Client(_, told) = &closed[0];
     assert_eq!(rt; *told, Some(report));
-    Ok(())
-}
-
-#[test]
-fn host_file_gives_back_what_it_took(rt: HostRuntime) -> Result<(), Fail> {
-    let alloc = rt.alloc();
-    let name = format!(in alloc; "tsmd_session_io_{}", process::id(rt.process()))?;
-    let path = env::temp_dir(&rt)?.join(alloc, name)?;
-    let mut sink = HostSink::new(File::create(&rt, path.as_path())?);
-    assert_eq!(rt; sink.write(b"abc"), Ok(3));
-    drop(sink);
-    let mut source = HostSource::new(File::open(&rt, path.as_path())?);
-    let mut buffer = [0; 8];
-    assert_eq!(rt; source.read(&mut buffer), Ok(3));
-    assert_eq!(rt; source.read(&mut buffer), Ok(0));
-    drop(source);
-    fs::remove_file(&rt, path.as_path())?;
-    Ok(())
-}
-
-#[test]
-fn host_clock_is_past_the_year_2020(rt: HostRuntime) -> Result<(), Fail> {
-    let mut clock = HostClock::new(rt.clone()?);
-    assert!(rt; clock.now().get() > 1_577_836_800_000_000_000);
     Ok(())
 }

@@ -64,6 +64,7 @@ impl<'a> Sink for NotingSink<'a> {
 }
 
 /// A gate that notes what store and sink had noted when it was reached: a digit for each view, three for each reply.
+#[derive(Drop)]
 struct NotingGate<'a> {
     out: &'a AtomicU64,
     taken: &'a AtomicU64,
@@ -84,7 +85,10 @@ impl<'a> Gate for NotingGate<'a> {
 fn note(notes: &AtomicU64, base: u64, now: &AtomicU64) {
     let before = notes.load(Ordering::SeqCst);
     let now = now.load(Ordering::SeqCst);
-    notes.store(before.wrapping_mul(base).wrapping_add(now), Ordering::SeqCst);
+    notes.store(
+        before.wrapping_mul(base).wrapping_add(now),
+        Ordering::SeqCst,
+    );
 }
 
 #[test]
@@ -108,8 +112,19 @@ fn the_gate_is_told_where_a_session_is(rt: HostRuntime) -> Result<(), Fail> {
         taken: &taken,
     };
     let mut clock = MemClock::new(Vec::new(alloc));
-    session(alloc, &mut store, &mut source, &mut sink, &mut clock, &gate, 0);
-    assert_eq!(rt; sink.inner.bytes(), b"ok 1\nat 1\nname: cpu\ntime v\n10 1\n.\nat 1\n".as_slice());
+    session(
+        alloc,
+        &mut store,
+        &mut source,
+        &mut sink,
+        &mut clock,
+        &gate,
+        0,
+    );
+    assert_eq!(rt;
+        sink.inner.bytes(),
+        b"ok 1\nat 1\nname: cpu\ntime v\n10 1\n.\nat 1\n".as_slice()
+    );
     // One view was reached while it was out; the replies have 5, 29 and 5 bytes.
     assert_eq!(rt; gate.views.load(Ordering::SeqCst), 1);
     assert_eq!(rt; gate.replies.load(Ordering::SeqCst), 5_034_039);

@@ -58,7 +58,15 @@ fn a_byte_at_a_time_gives_the_same_replies(rt: HostRuntime) -> Result<(), Fail> 
     };
     let mut store = PlainStore::new(alloc, 0);
     let mut clock = MemClock::new(Vec::new(alloc));
-    let report = session(alloc, &mut store, &mut source, &mut sink, &mut clock, &NoGate, 0);
+    let report = session(
+        alloc,
+        &mut store,
+        &mut source,
+        &mut sink,
+        &mut clock,
+        &NoGate,
+        0,
+    );
     assert_eq!(rt; report.requests, 2);
     let wanted = b"ok 1\nat 1\nname: cpu\ntime v\n10 1\n.\n";
     assert_eq!(rt; sink.inner.bytes(), wanted.as_slice());

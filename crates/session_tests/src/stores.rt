@@ -1,7 +1,7 @@
 ghost use Rattle.std.specs.Prelude.{Contains, IfSome};
 
 use line_protocol::read_batch;
-use point_model::{Need, PointCursor, TagCond, TagText};
+use point_model::{Need, PointCursor, TagCond, TagTest, TagText};
 use std::alloc::Global;
 use std::test::Fail;
 use store_trait::{ListView, PlainStore, Store, ViewFault, WriteFault};
@@ -16,7 +16,7 @@ fn write(alloc: Global, store: &mut PlainStore, lines: &str) -> Option<Result<u6
 fn need(alloc: Global, measurement: &str, from: i64, descending: bool) -> Option<Need> {
     Some(Need {
         measurement: Name::new(alloc, measurement).ok()?,
-        tags: TagCond::True,
+        tags: TagCond::new(alloc, TagTest::True).ok()?,
         from: Time::new(from)?,
         to: Time::new(100)?,
         descending,
@@ -117,10 +117,9 @@ fn view_lists_the_series_that_meet_the_condition(rt: HostRuntime) -> Result<(), 
     ];
     for (host, count, first) in rows {
         let mut need = need(alloc, "cpu", 1, false).expect(&rt, "a need");
-        need.tags = TagCond::Eq(
-            Name::new(alloc, "host").expect(&rt, "a name"),
-            TagText::new(String::from_str(alloc, host)?),
-        );
+        let key = Name::new(alloc, "host").expect(&rt, "a name");
+        let text = TagText::new(String::from_str(alloc, host)?);
+        need.tags = TagCond::new(alloc, TagTest::Eq(key, text))?;
         let view = begin(&mut store, &need).expect(&rt, "a view");
         assert_eq!(rt; view.keys().len(), count);
         assert_eq!(rt; key_of(alloc, &view, 0)?.as_str(), first);
