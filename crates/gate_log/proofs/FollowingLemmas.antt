@@ -63,9 +63,11 @@ module _ {S : Type 0} (grammar : Grammar S) (exact : IsExact grammar) where
   -- two strange bodies stand at one place
   one_place : (some other : List (List ℕ)) (body body' : List ℕ) (others others' : List (List ℕ)) (why why' : Why) (first state state' : S) → Leads grammar first some state → Leads grammar first other state'
       → grammar.strange why state body → grammar.strange why' state' body' → some ++ body ∷ others ≡ other ++ body' ∷ others' → (some ≡ other) × (why ≡ why')
-  one_place [] [] body body' others others' why why' first state state' a b strange strange' is =
-      (refl, exact.reason why why' first body (subst (λ (s : S). grammar.strange why s body) a strange)
-      (subst (λ (l : List ℕ). grammar.strange why' first l) (sym (head_is body body' others others' is).0) (subst (λ (s : S). grammar.strange why' s body') b strange')))
+  one_place [] [] body body' others others' why why' first state state' a b strange strange' is = (
+    refl,
+    exact.reason why why' first body (subst (λ (s : S). grammar.strange why s body) a strange)
+        (subst (λ (l : List ℕ). grammar.strange why' first l) (sym (head_is body body' others others' is).0) (subst (λ (s : S). grammar.strange why' s body') b strange')),
+  )
   one_place [] (y ∷ other) body body' others others' why why' first state state' a b strange strange' is =
       let parts = head_is body y others (other ++ body' ∷ others') is in
       absurd (exact.never why first body b.0 (subst (λ (l : List ℕ). grammar.makes first l b.0) (sym parts.0) b.1) (subst (λ (s : S). grammar.strange why s body) a strange))
@@ -96,7 +98,7 @@ module _ {S : Type 0} (grammar : Grammar S) (exact : IsExact grammar) where
       let s = a.stands in
       let t = b.stands in
       let place = one_place s.before t.before s.body t.body s.others t.others some.why other.why first s.state t.state s.lead t.lead s.strange t.strange
-          (sym s.parts ∙ one_log a.records b.records bytes a.log b.log ∙ t.parts) in
+      (sym s.parts ∙ one_log a.records b.records bytes a.log b.log ∙ t.parts) in
       let file = s.file ∙ sym t.file in
       let gate = s.gate ∙ ap (λ (l : List (List ℕ)). length (spelled l)) place.0 ∙ sym t.gate in
       λ i. record { file = file i; offset = gate i; why = place.1 i }

@@ -62,7 +62,9 @@ fn each_image_of_each_stop_has_two_or_three_records(rt: HostRuntime) -> Result<(
         log.append(&mut disk, &Frame::new(alloc, &[1])?)?;
         log.append(&mut disk, &Frame::new(alloc, &[2, 2])?)?;
         let mut fuse = Fuse::new(disk, k);
-        let stopped = log.append(&mut fuse, &Frame::new(alloc, &[3, 3, 3])?).is_err();
+        let stopped = log
+            .append(&mut fuse, &Frame::new(alloc, &[3, 3, 3])?)
+            .is_err();
         assert_eq!(rt; stopped, k < 4);
         let (fewest, most) = counts_left(alloc, &fuse.into_disk())?;
         // The third record can't be there before its gate is written, and is there once that is synced.

@@ -57,11 +57,7 @@ fn two_series_are_these_bytes(rt: HostRuntime) -> Result<(), Failed> {
 // Making the log takes the disk's calls 0 and 1, an append four: write and sync of the record, write and sync of its gate.
 
 /// Adds two series while the disk's call at this place fails, and again. Tells whether there was a doubt in between.
-fn add_again(
-    alloc: Global,
-    seed: Seed,
-    place: u64,
-) -> Result<(MemDisk, Series, bool), Failed> {
+fn add_again(alloc: Global, seed: Seed, place: u64) -> Result<(MemDisk, Series, bool), Failed> {
     let mut failing = Vec::new(alloc);
     failing.push(Fail::Disk(place))?;
     let mut disk = MemDisk::new(alloc, failing);

@@ -51,7 +51,11 @@ pub fn series_of(
 }
 
 /// Holds the series of a record, where it may follow. Else which ones are held is open.
-fn follow(alloc: Global, held: &mut IndexSet<SeriesKey, Seed>, body: &[u8]) -> Result<bool, AllocError>
+fn follow(
+    alloc: Global,
+    held: &mut IndexSet<SeriesKey, Seed>,
+    body: &[u8],
+) -> Result<bool, AllocError>
     requires { length held.old.keys ≤ most_series }
     ensures follows { IfOk result (λ follows. IsTrue follows → Takes held.old.keys body.now held.new.keys) }
     ensures none { IfOk result (λ follows. follows ≡ false → MayNotFollow held.old.keys body.now) }

@@ -38,7 +38,7 @@ returns-in_ok-log-in-Manifest-clause-ok g c =
           let old : HasFile (g.D.Disk.files c.args.disk.now) 0 (Spells (bodies c.in_ok-log-in-Manifest.field-0-1.items) (FoundBy c.in_ok-log-in-Manifest.log.gate)) =
           subst (λ (f : Files). HasFile f 0 (Spells (bodies c.in_ok-log-in-Manifest.field-0-1.items) (FoundBy c.in_ok-log-in-Manifest.log.gate))) (c.read.ensures.files ∙ c.look.ensures.files) (read.found tells) in
           let none = fresh_records (g.D.Disk.files c.args.disk.now) (Spells (bodies c.in_ok-log-in-Manifest.field-0-1.items) (FoundBy c.in_ok-log-in-Manifest.log.gate)) (bodies c.in_ok-log-in-Manifest.field-0-1.items)
-              (λ bytes found. found_log c.in_ok-log-in-Manifest.log.gate (bodies c.in_ok-log-in-Manifest.field-0-1.items) bytes read.fit found) (c.requires tells).fresh old in
+          (λ bytes found. found_log c.in_ok-log-in-Manifest.log.gate (bodies c.in_ok-log-in-Manifest.field-0-1.items) bytes read.fit found) (c.requires tells).fresh old in
           subst (λ (r : List (List ℕ)). Stands (g.D.Disk.files c.read.new.disk) (g.D.Disk.crashes c.read.new.disk) c.in_ok-log-in-Manifest.log r None) none
           (read.stands tells (λ image now.
           let from = c.look.ensures.crash.now image now in
