@@ -5,8 +5,6 @@
 mod decoder;
 mod encoder;
 mod kind;
-#[cfg(test)]
-mod tests;
 
 pub use decoder::decode_block;
 pub use encoder::encode_block;

@@ -7,6 +7,3 @@ mod take;
 
 pub use put::{put_i64, put_u16, put_u32, put_u64};
 pub use take::{take_i64, take_u16, take_u32, take_u64};
-
-#[cfg(test)]
-mod tests;

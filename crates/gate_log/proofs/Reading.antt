@@ -12,7 +12,9 @@ use Rattle.gate_log.specs.Damage.{IsEnd}
 use Rattle.gate_log.specs.declared.log.Gate.{Gate}
 use Rattle.gate_log.specs.declared.log.Gate.TheVariants.{Shut, Missing, InDoubt}
 use Rattle.gate_log.specs.declared.log.Log.{Log}
-use Rattle.gate_log.specs.Records.{spelled, IsGated, Spells}
+use Rattle.gate_log.specs.Records.{AllFit, spelled, IsClosed, Spells}
+use Rattle.gate_log.specs.Calls.Read.{Reads}
+use Rattle.gate_log.proofs.Unique.{closed_goes_on}
 use Rattle.gate_log.specs.Log.{EndsBy, FoundBy, HasGate, Stands}
 
 both_ways : (P Q R : List ℕ → Type 0) → ((bytes : List ℕ) → P bytes → Q bytes → R bytes) → (file : Option (List ℕ)) → IsSomeAnd file P → IsSomeAnd file Q → IsSomeAnd file R
@@ -70,23 +72,57 @@ found_by gate bytes end ends chosen within =
 pub found : (gate : Gate) (records : List (List ℕ)) (bytes : List ℕ) (end : ℕ) → bytes ≡ spelled records ++ drop end bytes → IsEnd (drop end bytes) → (gate ≡ Missing) × (end ≡ length bytes) ⊎ (gate ≡ Shut) × (end ≢ length bytes) → end ≤ length bytes → Spells records (FoundBy gate) bytes
 found gate records bytes end spelling ends chosen within = record { rest = drop end bytes; spelling = spelling; ending = found_by gate bytes end ends chosen within }
 
--- a file that ends right behind the records has no gate there
-not_gated : (records : List (List ℕ)) (bytes rest : List ℕ) → bytes ≡ spelled records ++ rest → rest ≡ [] → IsGated records bytes → ⊥
-not_gated records bytes rest spelling nothing gated =
-    let shut = gated.ending in
-    let short : length bytes ≡ length (spelled records) + 0 = ap length spelling ∙ length-append (spelled records) rest ∙ ap (λ (n : ℕ). length (spelled records) + n) (ap length nothing) in
-    let long : length bytes ≡ length (spelled records) + length (shut.gate ∷ shut.behind) = ap length gated.spelling ∙ length-append (spelled records) gated.rest ∙ ap (λ (n : ℕ). length (spelled records) + n) (ap length shut.bytes) in
-    omega (arith, short, long)
+has_gate : (gate : Gate) (records : List (List ℕ)) (bytes : List ℕ) → AllFit records → Spells records (FoundBy gate) bytes → IsClosed bytes → gate ≢ Missing
+has_gate Shut records bytes fit found closed is = cc
+has_gate Missing records bytes fit found closed is = closed_goes_on records bytes found.rest fit found.spelling found.ending closed
+has_gate InDoubt records bytes fit found closed is = absurd found.ending
 
-has_gate : (gate : Gate) (records : List (List ℕ)) (bytes : List ℕ) → Spells records (FoundBy gate) bytes → IsGated records bytes → gate ≢ Missing
-has_gate Shut records bytes found gated is = cc
-has_gate Missing records bytes found gated is = not_gated records bytes found.rest found.spelling found.ending gated
-has_gate InDoubt records bytes found gated is = absurd found.ending
-
-pub gated_has : (files : Directory) (log : Log) (records : List (List ℕ)) → HasFile files log.file (Spells records (FoundBy log.gate)) → HasFile files log.file (IsGated records) → HasGate log
-gated_has files log records found gated is =
-    somewhere (get files log.file) (both_ways (Spells records (FoundBy log.gate)) (IsGated records) (λ bytes. ⊥) (λ bytes f g. has_gate log.gate records bytes f g is) (get files log.file) found gated)
+pub closed_has : (files : Directory) (log : Log) (records : List (List ℕ)) → AllFit records → HasFile files log.file (Spells records (FoundBy log.gate)) → HasFile files log.file IsClosed → HasGate log
+closed_has files log records fit found closed is =
+    somewhere (get files log.file) (both_ways (Spells records (FoundBy log.gate)) IsClosed (λ bytes. ⊥) (λ bytes f g. has_gate log.gate records bytes fit f g is) (get files log.file) found closed)
   where
     somewhere : (file : Option (List ℕ)) → IsSomeAnd file (λ bytes. ⊥) → ⊥
     somewhere None h = h
     somewhere (Some bytes) h = h
+
+-- ---- a log that was read, where nothing was added before or behind
+
+durable_then : (files : Directory) (old new : Crashes) (number : ℕ) → Leaves Same old new → IsDurable files old number → IsDurable files new number
+durable_then files old new number run durable c now =
+    let from = run.now c now in
+    subst (λ (d : Directory). (get d number ≡ None) ⊎ (get d number ≡ get files number)) (sym from.2) (durable from.0 from.1)
+
+pub stands_then : (files : Directory) (old new : Crashes) (log : Log) (records : List (List ℕ)) (doubt : Option (List ℕ)) → Leaves Same old new → Stands files old log records doubt → Stands files new log records doubt
+stands_then files old new log records doubt run stands = record {
+  place = stands.place;
+  file = record {
+    read = stands.file.read;
+    left = λ c now. let from = run.now c now in subst (λ (d : Directory). HasFile d log.file (Spells records (EndsBy log.gate doubt))) (sym from.2) (stands.file.left from.0 from.1);
+  };
+}
+
+pub reads_since : (tells : Type 0) (number : ℕ) (log : Log) (records : List (List ℕ)) (files : Directory) (first old new : Crashes) → Leaves Same first old → Reads tells number log records files old new → Reads tells number log records files first new
+reads_since tells number log records files first old new run reads = record {
+  found = reads.found;
+  fit = reads.fit;
+  place = reads.place;
+  durable = reads.durable;
+  stands = λ told present. reads.stands told (λ c now. let from = run.now c now in subst (λ (d : Directory). IsPresent d number) (sym from.2) (present from.0 from.1));
+  gated = reads.gated;
+  placed = reads.placed;
+  file = reads.file;
+  sure = reads.sure;
+}
+
+pub reads_then : (tells : Type 0) (number : ℕ) (log : Log) (records : List (List ℕ)) (files : Directory) (old mid new : Crashes) → Leaves Same mid new → Reads tells number log records files old mid → Reads tells number log records files old new
+reads_then tells number log records files old mid new run reads = record {
+  found = reads.found;
+  fit = reads.fit;
+  place = reads.place;
+  durable = durable_then files mid new number run reads.durable;
+  stands = λ told present. stands_then files mid new log records None run (reads.stands told present);
+  gated = reads.gated;
+  placed = reads.placed;
+  file = reads.file;
+  sure = reads.sure;
+}

@@ -76,8 +76,3 @@ pub fn decode(alloc: Global, no: u32, bytes: &[u8]) -> Result<(Vec<Vec<u8>>, usi
     }
     Ok((records, bytes.len() - rest.len()))
 }
-
-/// Bytes are a log of one list of records at most.
-pub fn one_list()
-    ensures { (a b : List (List ℕ)) (bytes : List ℕ) → AllFit a → AllFit b → IsGated a bytes → IsGated b bytes → a ≡ b }
-{}

@@ -4,13 +4,11 @@
 mod decode;
 mod fault;
 mod frame;
+mod laws;
 mod log;
 mod read;
 
-pub use decode::one_list;
 pub use fault::LogFault;
-pub use frame::frame_record;
+pub use frame::Frame;
+pub use laws::one_list;
 pub use log::Log;
-
-#[cfg(test)]
-mod tests;

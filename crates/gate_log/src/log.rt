@@ -6,9 +6,8 @@ ghost use Rattle.shard_disk.specs.Health.{HasCause, Ages, Failed};
 ghost use Rattle.shard_disk.specs.Stage.{Finished, Refused};
 ghost use Rattle.gate_log.specs.Records.{framed, IsGated, IsReady, Spells, WithAtMost, spelled};
 
-use crate::frame::frame_record;
+use crate::Frame;
 use shard_disk::{Disk, Trouble, Writer, write_durably};
-use std::alloc::Global;
 
 /// How the gate behind the last record stands.
 #[derive(Clone, Copy, Debug, PartialEq, Eq)]
@@ -31,9 +30,9 @@ pub struct Log {
 }
 
 impl Log {
-    ghost use Rattle.gate_log.specs.Calls.Append.{Adds, AddsNone, Opens};
+    ghost use Rattle.gate_log.specs.Calls.Append.{Adds, AddsNone, Appends, Opens};
     ghost use Rattle.gate_log.specs.Calls.Make.{Makes};
-    ghost use Rattle.gate_log.specs.Calls.Settle.{KeepsFile, Remains, Settles};
+    ghost use Rattle.gate_log.specs.Calls.Settle.{KeepsFile, Remains, Settles, Settling};
     ghost use Rattle.gate_log.specs.Log.{HasGate, IsInDoubt, IsPlaced, IsShutLog, Reaches, Stands, doubtful, file_of};
 
     /// The number of its file.
@@ -86,20 +85,21 @@ impl Log {
     /// record that was in doubt isn't there, whatever crash comes.
     pub fn settle<D: Disk>(&mut self, disk: &mut D) -> Result<(), Trouble>
         requires { IsTrue D.tells → IsPlaced (D.files disk.old) self.old }
+        ensures { Settling D.Disk self.old self.new disk.old disk.new result }
+    {
+        self.close_gate(disk)
+    }
 
+    fn close_gate<D: Disk>(&mut self, disk: &mut D) -> Result<(), Trouble>
+        requires { IsTrue D.tells → IsPlaced (D.files disk.old) self.old }
         ensures ok { OnOk result (Settles (IsTrue D.tells) self.old self.new
             (D.files disk.old) (D.files disk.new) (D.crashes disk.old) (D.crashes disk.new)) }
         ensures refused { OnErr result (Remains (IsTrue D.tells) self.old self.new
             (D.files disk.old) (D.files disk.new) (D.crashes disk.old) (D.crashes disk.new)) }
-
-        // A crash at any moment of the call leaves the records, with the one in doubt or without.
         ensures crash { IsTrue D.tells → HasGate self.old → (records : List (List ℕ)) (doubt : Option (List ℕ))
             → Stands (D.files disk.old) (D.crashes disk.old) self.old records doubt
-            → Leaves (ChangesAt (file_of self.old) (Ends (WithAtMost records (doubtful doubt)))) (D.crashes disk.old) (D.crashes disk.new) }
-
-        // Where a closed gate ends the log there is nothing to do.
+            → Leaves (ChangesAt self.old.file (Ends (WithAtMost records (doubtful doubt)))) (D.crashes disk.old) (D.crashes disk.new) }
         ensures idle { IsShutLog self.old → (IsOk result) × (self.new ≡ self.old) × (disk.new ≡ disk.old) }
-
         ensures placed { IsTrue D.tells → IsPlaced (D.files disk.new) self.new }
         ensures kept { KeepsFile (IsTrue D.tells) self.old self.new (D.files disk.old) (D.files disk.new) }
         ensures handed_out { D.handed_out disk.new ≡ D.handed_out disk.old }
@@ -113,34 +113,30 @@ impl Log {
         Ok(())
     }
 
-    /// Adds a record of at most 2^30 bytes, durably. What was in doubt before is settled first. After a fault the
-    /// record is there or not, as `in_doubt` tells: where it answers false the record isn't there.
-    pub fn append<D: Disk>(
-        &mut self,
-        alloc: Global,
-        disk: &mut D,
-        body: &[u8],
-    ) -> Result<(), Trouble>
-        requires small { length body.now ≤ 2 ^ 30 }
-        requires placed { IsTrue D.tells → IsPlaced (D.files disk.old) self.old }
+    /// Adds a record, durably. What was in doubt before is settled first. After a fault the record is there or not, as
+    /// `in_doubt` tells: where it answers false the record isn't there. It takes no memory.
+    pub fn append<D: Disk>(&mut self, disk: &mut D, frame: &Frame) -> Result<(), Trouble>
+        requires { IsTrue D.tells → IsPlaced (D.files disk.old) self.old }
+        ensures { Appends D.Disk frame.now self.old self.new disk.old disk.new result }
+    {
+        self.add(disk, frame)
+    }
 
-        ensures ok { OnOk result (Adds (IsTrue D.tells) body.now self.old self.new
+    fn add<D: Disk>(&mut self, disk: &mut D, frame: &Frame) -> Result<(), Trouble>
+        requires { IsTrue D.tells → IsPlaced (D.files disk.old) self.old }
+        ensures ok { OnOk result (Adds (IsTrue D.tells) frame.now self.old self.new
             (D.files disk.old) (D.files disk.new) (D.crashes disk.old) (D.crashes disk.new)) }
-        ensures refused { OnErr result (AddsNone (IsTrue D.tells) (IsErrOf result Trouble.Fault) body.now self.old self.new
+        ensures refused { OnErr result (AddsNone (IsTrue D.tells) (IsErrOf result Trouble.Fault) frame.now self.old self.new
             (D.files disk.old) (D.files disk.new) (D.crashes disk.old) (D.crashes disk.new)) }
-
-        // A crash at any moment of the call leaves the records, with at most the new one or the one in doubt.
         ensures crash { IsTrue D.tells → HasGate self.old → (records : List (List ℕ)) (doubt : Option (List ℕ))
             → Stands (D.files disk.old) (D.crashes disk.old) self.old records doubt
-            → Leaves (ChangesAt (file_of self.old) (Ends (WithAtMost records (body.now ∷ doubtful doubt)))) (D.crashes disk.old) (D.crashes disk.new) }
-
+            → Leaves (ChangesAt self.old.file (Ends (WithAtMost records (frame.now ∷ doubtful doubt)))) (D.crashes disk.old) (D.crashes disk.new) }
         ensures placed { IsTrue D.tells → IsPlaced (D.files disk.new) self.new }
         ensures kept { KeepsFile (IsTrue D.tells) self.old self.new (D.files disk.old) (D.files disk.new) }
         ensures handed_out { D.handed_out disk.new ≡ D.handed_out disk.old }
-        ensures ages { Ages (D.health disk.old) (D.health disk.new) }
-        ensures fault { IsErrOf result Trouble.Fault → Failed (D.health disk.old) (D.health disk.new) }
+        ensures fault { HasCause result (D.health disk.old) (D.health disk.new) }
     {
-        let frame = frame_record(alloc, body)?;
+        let frame = frame.bytes();
         let size = frame.len() as u64;
         // No file is that long.
         if size > u64::MAX - self.end {
@@ -148,13 +144,13 @@ impl Log {
         }
         self.settle(disk)?;
         // A crash up to here leaves the gate closed, and so the records alone.
-        self.stage(disk, &frame)?;
+        self.stage(disk, frame)?;
         // From here on the record is whole behind its gate, so a crash leaves it there or not.
         self.open_gate(disk, size)
     }
 
     /// Writes a record and a closed gate behind the gate, which stays closed.
-    pub fn stage<D: Disk>(&self, disk: &mut D, frame: &[u8]) -> Result<(), Trouble>
+    fn stage<D: Disk>(&self, disk: &mut D, frame: &[u8]) -> Result<(), Trouble>
         requires shut { self.now.gate ≡ Gate.Shut }
         requires room { self.now.end + 1 < 2 ^ 64 }
         requires placed { IsTrue D.tells → IsPlaced (D.files disk.old) self.now }
@@ -179,7 +175,7 @@ impl Log {
     }
 
     /// Opens the gate of the record behind it, which takes this many bytes with its gate.
-    pub fn open_gate<D: Disk>(&mut self, disk: &mut D, size: u64) -> Result<(), Trouble>
+    fn open_gate<D: Disk>(&mut self, disk: &mut D, size: u64) -> Result<(), Trouble>
         requires shut { self.old.gate ≡ Gate.Shut }
         requires room { self.old.end + size < 2 ^ 64 }
         requires placed { IsTrue D.tells → Reaches (D.files disk.old) self.old (1 + size) }

@@ -1,5 +1,5 @@
 -- The records of a manifest, one after another.
-use Rattle.std.proofs.Common.{◌≡◌, ℕ, suc, ◌+◌, ◌<◌, List, [], ◌∷◌, ◌++◌, length, get_or, take, drop, refl, sym, ap, ◌∙◌, arith, Vec}
+use Rattle.std.proofs.Common.{◌≡◌, ℕ, suc, ◌+◌, ◌<◌, List, [], ◌∷◌, ◌++◌, length, get_or, take, drop, refl, sym, ap, ◌∙◌, subst, arith, Vec}
 use Rattle.std.proofs.lemmas.List.{append-nil, length-append, map-append, take_more, take-append-drop}
 use Rattle.std.proofs.Math.Seq.{drop-cons}
 use Rattle.std.specs.declared.alloc.Global.{Global}
@@ -8,9 +8,11 @@ use Rattle.gate_log.specs.Damage.{bodies}
 use Rattle.gate_log.specs.Records.{spelled}
 use Rattle.manifest_log.specs.declared.change.Change.{Change}
 use Rattle.manifest_log.specs.declared.directory.Directory.{Directory}
-use Rattle.manifest_log.specs.Format.{edit_bytes, IsWritable}
-use Rattle.manifest_log.specs.Edits.{Follows, empty}
-use Rattle.manifest_log.specs.Reading.{Lead, bodies_of, MayNotFollow, StandsBehind}
+use Rattle.gate_log.specs.Following.{Leads}
+use Rattle.manifest_log.specs.Format.{edit_bytes}
+use Rattle.manifest_log.specs.Edits.{empty}
+use Rattle.manifest_log.specs.Reading.{Lead, bodies_of, MayNotFollow, StandsBehind, Takes, manifest_grammar}
+use Rattle.manifest_log.proofs.OnceLemmas.{lead_bodies}
 use Rattle.manifest_log.proofs.FollowLemmas.{lead_push, lead_none, bodies_push}
 
 -- these records are edits that leave the directory, and the next gate stands here
@@ -31,32 +33,32 @@ bodies_more : (records : List (Vec ℕ Global)) (k : ℕ) (d : Vec ℕ Global) �
 bodies_more records k d within = ap bodies (take_more records k d within) ∙ map-append (λ (v : Vec ℕ Global). v.items) (take k records) (get_or records k d ∷ [])
 
 pub folded_more : (records : List (Vec ℕ Global)) (k : ℕ) (d : Vec ℕ Global) (directory next : Directory) (body : List ℕ) (gate gate' : ℕ) → k < length records → body ≡ (get_or records k d).items
-    → Folded (bodies (take k records)) directory gate → (changes : List Change) → IsWritable changes → body ≡ edit_bytes changes → Follows directory changes next → gate' ≡ gate + (9 + length body)
-    → Folded (bodies (take (k + 1) records)) next gate'
-folded_more records k d directory next body gate gate' within here so_far changes writable is follows place = record {
-  edits = so_far.edits ++ changes ∷ [];
-  are = all ∙ ap (λ (l : List (List ℕ)). l ++ edit_bytes changes ∷ []) so_far.are ∙ sym (bodies_push so_far.edits changes);
-  lead = lead_push so_far.edits changes directory next so_far.lead writable follows;
+    → Folded (bodies (take k records)) directory gate → Takes directory body next → gate' ≡ gate + (9 + length body) → Folded (bodies (take (k + 1) records)) next gate'
+folded_more records k d directory next body gate gate' within here so_far takes place = record {
+  edits = so_far.edits ++ takes.changes ∷ [];
+  are = all ∙ ap (λ (l : List (List ℕ)). l ++ edit_bytes takes.changes ∷ []) so_far.are ∙ sym (bodies_push so_far.edits takes.changes);
+  lead = lead_push so_far.edits takes.changes directory next so_far.lead takes.written takes.follows;
   place = place ∙ omega (arith, so_far.place, spelled_more (bodies (take k records)) body, ap (λ (l : List (List ℕ)). length (spelled l)) more);
 }
   where
     more : bodies (take (k + 1) records) ≡ bodies (take k records) ++ body ∷ []
     more = bodies_more records k d within ∙ ap (λ (b : List ℕ). bodies (take k records) ++ b ∷ []) (sym here)
 
-    all : bodies (take (k + 1) records) ≡ bodies (take k records) ++ edit_bytes changes ∷ []
-    all = more ∙ ap (λ (b : List ℕ). bodies (take k records) ++ b ∷ []) is
+    all : bodies (take (k + 1) records) ≡ bodies (take k records) ++ edit_bytes takes.changes ∷ []
+    all = more ∙ ap (λ (b : List ℕ). bodies (take k records) ++ b ∷ []) takes.are
 
 -- a record that may not follow is the one that is named
 pub stands_behind : (records : List (Vec ℕ Global)) (k : ℕ) (d : Vec ℕ Global) (directory : Directory) (body : List ℕ) (gate : ℕ) → k < length records → body ≡ (get_or records k d).items
     → Folded (bodies (take k records)) directory gate → MayNotFollow directory body → StandsBehind (record { file = 0; offset = gate; why = Body }) (bodies records)
 stands_behind records k d directory body gate within here so_far none = record {
-  edits = so_far.edits;
-  directory = directory;
+  before = bodies (take k records);
+  state = directory;
   body = body;
   others = bodies (drop (suc k) records);
   parts = sym (ap bodies (take-append-drop k records)) ∙ map-append (λ (v : Vec ℕ Global). v.items) (take k records) (drop k records)
-      ∙ (λ i. so_far.are i ++ bodies (drop-cons records k d within i)) ∙ ap (λ (b : List ℕ). bodies_of so_far.edits ++ b ∷ bodies (drop (suc k) records)) (sym here);
-  lead = so_far.lead;
-  none = none;
-  named = ap (λ (n : ℕ). record { file = 0; offset = n; why = Body }) (so_far.place ∙ ap (λ (l : List (List ℕ)). length (spelled l)) so_far.are);
+      ∙ (λ i. bodies (take k records) ++ bodies (drop-cons records k d within i)) ∙ ap (λ (b : List ℕ). bodies (take k records) ++ b ∷ bodies (drop (suc k) records)) (sym here);
+  lead = subst (λ (l : List (List ℕ)). Leads manifest_grammar empty l directory) (sym so_far.are) (lead_bodies so_far.edits empty directory so_far.lead.written so_far.lead.leave);
+  strange = (refl, none);
+  file = refl;
+  gate = so_far.place;
 }

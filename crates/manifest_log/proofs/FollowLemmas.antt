@@ -20,16 +20,16 @@ some_some x y e = cc e
 
 -- the body is of these changes, which can't be made
 pub not_made : (directory : Directory) (body : List ℕ) (read seen : List Change) → body ≡ edit_bytes read → IsWritable read → seen ≡ read → all_changed directory seen ≡ None → MayNotFollow directory body
-not_made directory body read seen found good same none changes next writable is follows =
-    let one : read ≡ changes = same_edit read changes good writable (sym found ∙ is) in
-    none_some next (sym none ∙ ap (all_changed directory) (same ∙ one) ∙ follows.made)
+not_made directory body read seen found good same none next takes =
+    let one : read ≡ takes.changes = same_edit read takes.changes good takes.written (sym found ∙ takes.are) in
+    none_some next (sym none ∙ ap (all_changed directory) (same ∙ one) ∙ takes.follows.made)
 
 -- it is of these, and what they leave isn't sound
 pub not_sound : (directory left : Directory) (body : List ℕ) (read seen : List Change) → body ≡ edit_bytes read → IsWritable read → seen ≡ read → all_changed directory seen ≡ Some left → (IsSound left → ⊥) → MayNotFollow directory body
-not_sound directory left body read seen found good same made bad changes next writable is follows =
-    let one : read ≡ changes = same_edit read changes good writable (sym found ∙ is) in
-    let there : left ≡ next = some_some left next (sym made ∙ ap (all_changed directory) (same ∙ one) ∙ follows.made) in
-    bad (subst IsSound (sym there) follows.sound)
+not_sound directory left body read seen found good same made bad next takes =
+    let one : read ≡ takes.changes = same_edit read takes.changes good takes.written (sym found ∙ takes.are) in
+    let there : left ≡ next = some_some left next (sym made ∙ ap (all_changed directory) (same ∙ one) ∙ takes.follows.made) in
+    bad (subst IsSound (sym there) takes.follows.sound)
 
 -- ---- one record more
 

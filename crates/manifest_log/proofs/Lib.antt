@@ -6,5 +6,4 @@ pub mod FollowLemmas
 pub mod FoldLemmas
 pub mod LookLemmas
 pub mod OpenLemmas
-pub mod FirstLemmas
 pub mod OnceLemmas

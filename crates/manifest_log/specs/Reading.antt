@@ -1,13 +1,14 @@
 -- What is the manifest of a disk read as, and what is wrong with another?
-use Rattle.std.specs.Prelude.{◌≡◌, ◌≢◌, ◌⊎◌, ℕ, List, [], ◌∷◌, ◌++◌, length, map, Option, None, Some, Result, Ok, Err}
+use Rattle.std.specs.Prelude.{◌≡◌, ◌≢◌, ◌⊎◌, ℕ, List, [], map, Option, None, Some, Result, Ok, Err}
 use Rattle.std.specs.FinMap.{keys}
 use Rattle.std.specs.List.{AllByRecursion}
 use Rattle.shard_disk.specs.Directory.{HasFile}
 use Rattle.shard_disk.specs.Directory.{Directory as Files}
 use Rattle.shard_disk.specs.declared.damage.Damage.{Damage}
 use Rattle.shard_disk.specs.declared.damage.Why.TheVariants.{NoManifest, Body}
-use Rattle.gate_log.specs.Damage.{IsDamaged, IsEnd}
-use Rattle.gate_log.specs.Records.{Spells, AllFit, spelled}
+use Rattle.gate_log.specs.Damage.{IsLog}
+use Rattle.gate_log.specs.Following.{Grammar, plain_grammar}
+use Rattle.gate_log.specs.Following as following
 use Rattle.manifest_log.specs.declared.change.Change.{Change}
 use Rattle.manifest_log.specs.declared.directory.Directory.{Directory}
 use Rattle.manifest_log.specs.Found.{HasNoManifest}
@@ -17,10 +18,6 @@ use Rattle.manifest_log.specs.Edits.{Follows, Leave, empty}
 -- the file of the manifest
 abbrev pub manifest : ℕ
 manifest = 0
-
--- the bytes are a log of these records
-abbrev pub IsLog : List (List ℕ) → List ℕ → Type 0
-IsLog records bytes = AllFit records × Spells records IsEnd bytes
 
 -- the bytes of edits, one record each
 abbrev pub bodies_of : List (List Change) → List (List ℕ)
@@ -39,24 +36,24 @@ pub record IsManifest (directory : Directory) (bytes : List ℕ) : Type 0 where
   pub lead : Lead edits directory
   pub segment : directory.segments ≢ []
 
+-- the body is of an edit that makes this directory of the one before
+pub record Takes (before : Directory) (body : List ℕ) (next : Directory) : Type 0 where
+  pub changes : List Change
+  pub written : IsWritable changes
+  pub are : body ≡ edit_bytes changes
+  pub follows : Follows before changes next
+
+-- how the records of a manifest are read
+abbrev pub manifest_grammar : Grammar Directory
+manifest_grammar = plain_grammar Takes
+
 -- the body is of no edit that may follow
 abbrev pub MayNotFollow : Directory → List ℕ → Type 0
-MayNotFollow directory body = (changes : List Change) (next : Directory) → IsWritable changes → body ≡ edit_bytes changes → Follows directory changes next → ⊥
+MayNotFollow directory body = (next : Directory) → Takes directory body next → ⊥
 
--- behind edits that leave a directory stands a record that is none which may follow: it is named at its gate
-pub record StandsBehind (damage : Damage) (records : List (List ℕ)) : Type 0 where
-  pub edits : List (List Change)
-  pub directory : Directory
-  pub body : List ℕ
-  pub others : List (List ℕ)
-  pub parts : records ≡ bodies_of edits ++ body ∷ others
-  pub lead : Lead edits directory
-  pub none : MayNotFollow directory body
-  pub named : damage ≡ record { file = manifest; offset = length (spelled (bodies_of edits)); why = Body }
-
--- a record of the file is so
-abbrev pub IsStrange : Damage → List ℕ → Type 0
-IsStrange damage bytes = (records : List (List ℕ)) × IsLog records bytes × StandsBehind damage records
+-- among the records one stands behind edits, and is of none that may follow: it is named at its gate
+abbrev pub StandsBehind : Damage → List (List ℕ) → Type 0
+StandsBehind damage records = following.StandsBehind manifest_grammar empty damage manifest records
 
 -- the records are edits, one at least, which leave a directory without a segment: it is named at the file's beginning
 pub record HasNoSegment (damage : Damage) (bytes : List ℕ) : Type 0 where
@@ -68,9 +65,9 @@ pub record HasNoSegment (damage : Damage) (bytes : List ℕ) : Type 0 where
   pub none : directory.segments ≡ []
   pub named : damage ≡ record { file = manifest; offset = 0; why = Body }
 
--- what a manifest's file is wrong by: its log, a record, or that it names no segment
+-- what a manifest's file is wrong by: its log or a record, or that it names no segment
 abbrev pub IsWrong : Damage → List ℕ → Type 0
-IsWrong damage bytes = IsDamaged damage manifest bytes ⊎ IsStrange damage bytes ⊎ HasNoSegment damage bytes
+IsWrong damage bytes = following.IsWrong manifest_grammar empty damage manifest bytes ⊎ HasNoSegment damage bytes
 
 -- no file is there, or file 0 is a log without a record
 abbrev pub IsFresh : Files → Type 0

@@ -16,8 +16,5 @@ mod take;
 
 pub use change::{Change, Changes, Edit};
 pub use directory::{Directory, Files, Segments};
-pub use laws::{nothing_else, one_manifest};
+pub use laws::{edits_lead, one_manifest, one_reading};
 pub use manifest::Manifest;
-
-#[cfg(test)]
-mod tests;

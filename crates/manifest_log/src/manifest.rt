@@ -1,18 +1,17 @@
-ghost use Rattle.std.specs.Prelude.{◌≡◌, ◌∷◌, [], ◌↔◌, List, ℕ, Option, Err, IsTrue, IsOk, IfOk, IfSome, IfNone, IsErrOf, OnOk, OnErr};
+ghost use Rattle.std.specs.Prelude.{◌≡◌, ◌∷◌, [], ◌↔◌, Err, IsTrue, IfOk, IfSome, IfNone, IsErrOf, OnErr};
 ghost use Rattle.shard_disk.specs.Crash.{Leaves, Same};
-ghost use Rattle.shard_disk.specs.Directory.{Appears, ChangesAt, Ends, MadeOrNot};
-ghost use Rattle.shard_disk.specs.Health.{HasCause, Ages, Failed};
+ghost use Rattle.shard_disk.specs.Directory.{Appears, ChangesAt, MadeOrNot};
+ghost use Rattle.shard_disk.specs.Health.{Ages, Failed};
 ghost use Rattle.shard_disk.specs.declared.damage.Damage.{Damage};
-ghost use Rattle.gate_log.specs.Records.{WithAtMost};
 
 use crate::look::{Found, look};
 use crate::opening::{make, read_file};
 use crate::put::edit_of;
 use crate::read::damage;
 use crate::{Directory, Edit};
-use gate_log::{Log, LogFault};
+use gate_log::{Frame, Log, LogFault};
 use shard_disk::{Disk, Trouble, Why};
-use std::alloc::Global;
+use std::alloc::{AllocError, Global};
 
 /// The log of edits of a directory, which is file 0.
 #[derive(Debug, Drop)]
@@ -21,12 +20,12 @@ pub struct Manifest {
 }
 
 impl Manifest {
-    ghost use Rattle.gate_log.specs.Calls.Append.{Adds, AddsNone};
-    ghost use Rattle.gate_log.specs.Calls.Settle.{KeepsFile, Remains, Settles};
-    ghost use Rattle.gate_log.specs.Log.{HasGate, IsInDoubt, IsPlaced, IsShutLog, Stands, doubtful, file_of};
-    ghost use Rattle.manifest_log.specs.Calls.{Begins, Finds, MayFollow};
-    ghost use Rattle.manifest_log.specs.Format.{edit_bytes};
-    ghost use Rattle.manifest_log.specs.Reading.{IsFresh, Reads};
+    ghost use Rattle.gate_log.specs.Calls.Append.{Appends};
+    ghost use Rattle.gate_log.specs.Calls.Settle.{Settling};
+    ghost use Rattle.gate_log.specs.Log.{IsInDoubt, IsPlaced};
+    ghost use Rattle.manifest_log.specs.Calls.{Begins, BeginsNone, Finds, MayBegin, MayFollow};
+    ghost use Rattle.manifest_log.specs.Format.{IsWritable, edit_bytes};
+    ghost use Rattle.manifest_log.specs.Reading.{IsFresh, Reads, manifest};
 
     /// The manifest of a disk and the directory that its edits leave; `None` exactly where there is no file, or no edit.
     pub fn read<D: Disk>(
@@ -51,18 +50,20 @@ impl Manifest {
         }
     }
 
-    /// A manifest without an edit, where `read` answers `None`: file 0 as it is, or made where there is none. On a disk
-    /// that has given out the number 0 before and doesn't have the file, only another opening can make it: want of memory.
+    /// A manifest without an edit, where `read` answers `None`: file 0 as it is, or made where there is none. A refusal leaves
+    /// the files as they were. After a fault in making file 0 its number is passed over, so that only another opening of the
+    /// disk can make it.
     pub fn begin<D: Disk>(alloc: Global, disk: &mut D) -> Result<Manifest, LogFault>
-        requires { IsTrue D.tells → IsFresh (D.files disk.old) }
+        requires { IsTrue D.tells → MayBegin (D.files disk.old) (D.handed_out disk.old) }
 
-        ensures ok { IfOk result (λ begun. Begins (IsTrue D.tells) begun (D.files disk.old) (D.files disk.new) (D.crashes disk.old) (D.crashes disk.new)) }
+        ensures ok { IfOk result (λ begun. Begins (IsTrue D.tells) begun (D.files disk.old) (D.files disk.new)
+            (D.crashes disk.old) (D.crashes disk.new) (D.handed_out disk.old) (D.handed_out disk.new)) }
+        ensures refused { OnErr result (BeginsNone (IsTrue D.tells) (D.files disk.old) (D.files disk.new) (D.handed_out disk.old) (D.handed_out disk.new)) }
         ensures damaged { (damage : Damage) → result ≡ Err (LogFault.Damaged damage) → IsTrue D.tells → ⊥ }
         ensures fault { IsErrOf result LogFault.Fault → Failed (D.health disk.old) (D.health disk.new) }
 
-        // A crash at any moment of the call leaves the new file whole, or doesn't leave it, and nothing else.
-        ensures crash { IsTrue D.tells → Leaves (ChangesAt (D.handed_out disk.old).next_number (MadeOrNot (Appears (0 ∷ []))))
-            (D.crashes disk.old) (D.crashes disk.new) }
+        // A crash at any moment of the call leaves file 0 as it was or new and whole, and nothing else changed.
+        ensures crash { IsTrue D.tells → Leaves (ChangesAt manifest (MadeOrNot (Appears (0 ∷ [])))) (D.crashes disk.old) (D.crashes disk.new) }
         ensures ages { Ages (D.health disk.old) (D.health disk.new) }
     {
         match look(disk)? {
@@ -75,50 +76,30 @@ impl Manifest {
         }
     }
 
-    /// Makes the changes of an edit, durably and together. After a fault it is made or not, as `in_doubt` tells: where it
-    /// answers false the edit isn't made.
-    pub fn edit<D: Disk>(&mut self, alloc: Global, disk: &mut D, edit: &Edit) -> Result<(), Trouble>
-        requires may { MayFollow (IsTrue D.tells) edit.now.changes self.old (D.files disk.old) (D.crashes disk.old) }
-        requires placed { IsTrue D.tells → IsPlaced (D.files disk.old) self.old.log }
-
-        ensures ok { OnOk result (Adds (IsTrue D.tells) (edit_bytes edit.now.changes) self.old.log self.new.log
-            (D.files disk.old) (D.files disk.new) (D.crashes disk.old) (D.crashes disk.new)) }
-        ensures refused { OnErr result (AddsNone (IsTrue D.tells) (IsErrOf result Trouble.Fault) (edit_bytes edit.now.changes) self.old.log self.new.log
-            (D.files disk.old) (D.files disk.new) (D.crashes disk.old) (D.crashes disk.new)) }
-
-        // A crash at any moment of the call leaves the edits, with at most this one or the one in doubt.
-        ensures crash { IsTrue D.tells → HasGate self.old.log → (records : List (List ℕ)) (doubt : Option (List ℕ))
-            → Stands (D.files disk.old) (D.crashes disk.old) self.old.log records doubt
-            → Leaves (ChangesAt (file_of self.old.log) (Ends (WithAtMost records (edit_bytes edit.now.changes ∷ doubtful doubt)))) (D.crashes disk.old) (D.crashes disk.new) }
-
-        ensures placed { IsTrue D.tells → IsPlaced (D.files disk.new) self.new.log }
-        ensures kept { KeepsFile (IsTrue D.tells) self.old.log self.new.log (D.files disk.old) (D.files disk.new) }
-        ensures handed_out { D.handed_out disk.new ≡ D.handed_out disk.old }
-        ensures ages { Ages (D.health disk.old) (D.health disk.new) }
-        ensures fault { IsErrOf result Trouble.Fault → Failed (D.health disk.old) (D.health disk.new) }
+    /// The record of an edit, for `edit`. This is what takes memory of making it.
+    pub fn frame(alloc: Global, edit: &Edit) -> Result<Frame, AllocError>
+        requires { IsWritable edit.now.changes }
+        ensures { IfOk result (λ frame. frame ≡ edit_bytes edit.now.changes) }
     {
         let body = edit_of(alloc, edit.changes.as_slice())?;
-        self.log.append(alloc, disk, &body)
+        Frame::new(alloc, &body)
+    }
+
+    /// Makes the changes of an edit, durably and together. After a fault it is made or not, as `in_doubt` tells: where it
+    /// answers false the edit isn't made. It takes no memory.
+    pub fn edit<D: Disk>(&mut self, disk: &mut D, frame: &Frame) -> Result<(), Trouble>
+        requires may { MayFollow (IsTrue D.tells) frame.now self.old (D.files disk.old) (D.crashes disk.old) }
+        requires placed { IsTrue D.tells → IsPlaced (D.files disk.old) self.old.log }
+        ensures { Appends D.Disk frame.now self.old.log self.new.log disk.old disk.new result }
+    {
+        self.log.append(disk, frame)
     }
 
     /// Ends the doubt about an edit, so that it isn't made whatever crash comes, and closes a missing gate. Else it does
     /// nothing.
     pub fn settle<D: Disk>(&mut self, disk: &mut D) -> Result<(), Trouble>
         requires { IsTrue D.tells → IsPlaced (D.files disk.old) self.old.log }
-
-        ensures ok { OnOk result (Settles (IsTrue D.tells) self.old.log self.new.log
-            (D.files disk.old) (D.files disk.new) (D.crashes disk.old) (D.crashes disk.new)) }
-        ensures refused { OnErr result (Remains (IsTrue D.tells) self.old.log self.new.log
-            (D.files disk.old) (D.files disk.new) (D.crashes disk.old) (D.crashes disk.new)) }
-        ensures crash { IsTrue D.tells → HasGate self.old.log → (records : List (List ℕ)) (doubt : Option (List ℕ))
-            → Stands (D.files disk.old) (D.crashes disk.old) self.old.log records doubt
-            → Leaves (ChangesAt (file_of self.old.log) (Ends (WithAtMost records (doubtful doubt)))) (D.crashes disk.old) (D.crashes disk.new) }
-        ensures idle { IsShutLog self.old.log → (IsOk result) × (self.new ≡ self.old) × (disk.new ≡ disk.old) }
-
-        ensures placed { IsTrue D.tells → IsPlaced (D.files disk.new) self.new.log }
-        ensures kept { KeepsFile (IsTrue D.tells) self.old.log self.new.log (D.files disk.old) (D.files disk.new) }
-        ensures handed_out { D.handed_out disk.new ≡ D.handed_out disk.old }
-        ensures fault { HasCause result (D.health disk.old) (D.health disk.new) }
+        ensures { Settling D.Disk self.old.log self.new.log disk.old disk.new result }
     {
         self.log.settle(disk)
     }

@@ -1,10 +1,12 @@
-ghost use Rattle.std.specs.Prelude.{◌≡◌, ◌∷◌, [], Err, IsTrue, IfOk, IfSome, IfNone, IsErrOf};
+ghost use Rattle.std.specs.Prelude.{◌≡◌, ◌∷◌, [], Err, IsTrue, IfOk, IfSome, IfNone, IsErrOf, OnErr};
 ghost use Rattle.shard_disk.specs.Crash.{Leaves, Same};
 ghost use Rattle.shard_disk.specs.Directory.{Appears, ChangesAt, HasFile, IsPresent, MadeOrNot};
 ghost use Rattle.shard_disk.specs.Health.{Ages, Failed};
 ghost use Rattle.shard_disk.specs.declared.damage.Damage.{Damage};
-ghost use Rattle.manifest_log.specs.Calls.{Begins, Finds};
-ghost use Rattle.manifest_log.specs.Reading.{IsLog, IsWrong};
+ghost use Rattle.gate_log.specs.Calls.Make.{Makes};
+ghost use Rattle.gate_log.specs.Damage.{IsLog};
+ghost use Rattle.manifest_log.specs.Calls.{BeginsNone, Finds};
+ghost use Rattle.manifest_log.specs.Reading.{IsWrong};
 
 use crate::read::{damage, directory_of};
 use crate::{Directory, Manifest};
@@ -39,13 +41,14 @@ pub fn read_file<D: Disk>(
     Ok(Some((Manifest { log }, directory)))
 }
 
-/// Makes the manifest's file.
+/// Makes the manifest's file, where the next number is 0. On another disk it makes none that counts.
 pub fn make<D: Disk>(disk: &mut D) -> Result<Manifest, LogFault>
-    ensures ok { IfOk result (λ begun. Begins (IsTrue D.tells) begun (D.files disk.old) (D.files disk.new) (D.crashes disk.old) (D.crashes disk.new)) }
+    requires { IsTrue D.tells → (D.handed_out disk.old).next_number ≡ 0 }
+    ensures ok { IfOk result (λ begun. (begun.log.file ≡ 0) × Makes (IsTrue D.tells) begun.log (D.files disk.old) (D.files disk.new) (D.crashes disk.new) (D.handed_out disk.old) (D.handed_out disk.new)) }
+    ensures refused { OnErr result (BeginsNone (IsTrue D.tells) (D.files disk.old) (D.files disk.new) (D.handed_out disk.old) (D.handed_out disk.new)) }
     ensures undamaged { (damage : Damage) → result ≡ Err (LogFault.Damaged damage) → ⊥ }
     ensures fault { IsErrOf result LogFault.Fault → Failed (D.health disk.old) (D.health disk.new) }
-    ensures crash { IsTrue D.tells → Leaves (ChangesAt (D.handed_out disk.old).next_number (MadeOrNot (Appears (0 ∷ []))))
-        (D.crashes disk.old) (D.crashes disk.new) }
+    ensures crash { IsTrue D.tells → Leaves (ChangesAt 0 (MadeOrNot (Appears (0 ∷ [])))) (D.crashes disk.old) (D.crashes disk.new) }
     ensures ages { Ages (D.health disk.old) (D.health disk.new) }
 {
     let log = Log::make(disk)?;

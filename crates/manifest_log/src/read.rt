@@ -4,9 +4,7 @@ ghost use Rattle.gate_log.specs.Damage.{bodies};
 ghost use Rattle.gate_log.specs.Records.{spelled};
 ghost use Rattle.shard_disk.specs.declared.damage.Damage.{Damage};
 ghost use Rattle.manifest_log.specs.declared.change.Change.{Change};
-ghost use Rattle.manifest_log.specs.Format.{IsWritable, edit_bytes};
-ghost use Rattle.manifest_log.specs.Edits.{Follows};
-ghost use Rattle.manifest_log.specs.Reading.{Lead, bodies_of, MayNotFollow, StandsBehind};
+ghost use Rattle.manifest_log.specs.Reading.{Lead, bodies_of, MayNotFollow, StandsBehind, Takes};
 
 use crate::Directory;
 use crate::apply::make_all;
@@ -50,7 +48,7 @@ pub fn directory_of(alloc: Global, records: &[Vec<u8>]) -> Result<Directory, Log
 
 /// Makes the changes of a record, where it is an edit that may follow. Else what is left of the directory is open.
 fn follow(alloc: Global, directory: &mut Directory, body: &[u8]) -> Result<bool, AllocError>
-    ensures follows { IfOk result (λ follows. IsTrue follows → (changes : List Change) × IsWritable changes × (body.now ≡ edit_bytes changes) × Follows directory.old changes directory.new) }
+    ensures follows { IfOk result (λ follows. IsTrue follows → Takes directory.old body.now directory.new) }
     ensures none { IfOk result (λ follows. follows ≡ false → MayNotFollow directory.old body.now) }
 {
     let Some(changes) = take_edit(alloc, body)? else {

@@ -1,5 +1,5 @@
 -- A directory that is built from files in memory.
-use Rattle.std.proofs.Common.{◌≡◌, ◌≢◌, inl, inr, ℕ, ◌+◌, ◌<◌, ◌≤◌, List, [], refl, sym, ◌∙◌, ap, subst, arith, false, Option, Vec}
+use Rattle.std.proofs.Common.{◌≡◌, ◌≢◌, inl, inr, ℕ, ◌+◌, ◌<◌, ◌≤◌, List, [], refl, sym, ◌∙◌, ap, subst, arith, true, false, Option, Vec}
 use Rattle.std.specs.Prelude.{reverse, IsSome}
 use Rattle.std.specs.declared.alloc.Global.{Global}
 use Rattle.std.specs.declared.option.Option.TheVariants.{None, Some}
@@ -14,7 +14,7 @@ use Rattle.std.specs.Ordering.{nat_cmp}
 use Rattle.shard_disk.specs.Crash.{Follows}
 use Rattle.shard_disk.specs.Directory.{Directory, ChangesAt, Appears}
 use Rattle.mem_disk.specs.Building.{or_else, IsBuilt}
-use Rattle.mem_disk.specs.History.{bytes_of, crashes_of, reads}
+use Rattle.mem_disk.specs.History.{Sets, adopted_after, bytes_of, crashes_of, reads}
 use Rattle.mem_disk.specs.Replayed.{Files, AreFiles}
 use Rattle.mem_disk.specs.declared.change.Change.{Change}
 use Rattle.mem_disk.proofs.Changes.{nothing_left}
@@ -42,12 +42,13 @@ built_none all changes next none first =
         above = λ n there. absent (get (reads (reverse changes)) n) (ap (λ (d : Directory). get d n) blank ∙ get-empty nat_cmp n) there;
         least = λ m higher. omega (arith, first);
       };
+      adopted = λ n there. absent (get (reads (reverse changes)) n) (ap (λ (d : Directory). get d n) blank ∙ get-empty nat_cmp n) there;
     }
 
 -- one file more
 module _ (all rest rest' : Files) (changes changes' : List Change) (next next' number : ℕ) (bytes : Vec ℕ Global) (was : IsBuilt all rest changes next) (first : tree.get nat_cmp rest number ≡ Some bytes) (lowest : tree.IsLowerBound nat_cmp rest number)
     (updates : tree.Updates nat_cmp rest rest' number None) (file : ChangesAt number (Appears bytes.items) (reads (reverse changes)) (reads (reverse changes')))
-    (crash : Follows (ChangesAt number (Appears bytes.items)) (crashes_of changes) (crashes_of changes')) (follows : next' ≡ number + 1) where
+    (crash : Follows (ChangesAt number (Appears bytes.items)) (crashes_of changes) (crashes_of changes')) (sets : Sets number true (adopted_after (reverse changes)) (adopted_after (reverse changes'))) (follows : next' ≡ number + 1) where
   abbrev old : Directory
   old = reads (reverse changes)
 
@@ -94,6 +95,10 @@ module _ (all rest rest' : Files) (changes changes' : List Change) (next next' n
       least = λ m higher.
           let under : number < m = higher number (subst (λ (o : Option (List ℕ)). IsSome o) (sym file.here) refl) in omega (arith, follows);
     };
+    adopted = λ n there. elim (cases_eq n number) [
+      | inl same ↦ ap (adopted_after (reverse changes')) same ∙ sets.here
+      | inr apart ↦ sets.others n apart ∙ was.adopted n (subst (λ (o : Option (List ℕ)). IsSome o) (file.others n apart) there)
+    ];
   }
 
 -- behind the last file

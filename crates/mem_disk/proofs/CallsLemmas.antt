@@ -1,14 +1,16 @@
 -- Calls that aren't named leave a device as steady as it was.
-use Rattle.std.proofs.Common.{◌≡◌, ℕ, ◌+◌, ◌≤◌, ◌<◌, Bool, true, false, ◌||◌, ◌&&◌, List, [], ◌∷◌, ◌≢◌, ◌⊎◌, inl, inr, min, refl, sym, ◌∙◌, ap, eqb, ltb, eq-eqb, arith, None}
+use Rattle.std.proofs.Common.{◌≡◌, ℕ, ◌+◌, ◌≤◌, ◌<◌, Bool, true, false, ◌||◌, ◌&&◌, List, [], ◌∷◌, ◌≢◌, ◌⊎◌, inl, inr, min, refl, sym, ◌∙◌, ap, eqb, ltb, eq-eqb, arith, Option, None, Some}
+use Rattle.std.specs.Prelude.{is_none}
 use Rattle.std.proofs.lemmas.Bool.{false≢true, cases_eq}
 use Rattle.shard_disk.specs.Health.{Health, Ages, Failed}
 use Rattle.std.proofs.lemmas.Bool.Decides.{nat_tests}
 use Rattle.std.specs.List.{list_any, filter_map}
+use Rattle.mem_disk.specs.Called.{is_failing_at}
 use Rattle.mem_disk.specs.Calls.{is_at, is_past, read_of, write_of, is_quiet, is_over}
 use Rattle.mem_disk.specs.declared.fail.Fail.{Fail}
 use Rattle.mem_disk.specs.declared.fail.Fail.TheVariants.{Disk, Reader, Writer}
 
-none_of : (a b : Bool) → (a || b) ≡ false → (a ≡ false) × (b ≡ false)
+pub none_of : (a b : Bool) → (a || b) ≡ false → (a ≡ false) × (b ≡ false)
 none_of true b is = absurd (false≢true (sym is))
 none_of false b is = (refl, is)
 
@@ -118,3 +120,12 @@ counted old new a b unsteady is = record { rose = omega (arith, is); unsteady = 
 pub counted_ages : (old new : ℕ) (a b : Bool) → a ≡ false → new ≡ min (old + 1) 18446744073709551615 → old < 18446744073709551616
     → Ages (health old a) (health new b)
 counted_ages old new a b unsteady is fits = record { later = omega (arith, is, fits); steady = λ steady. absurd (false≢true (sym unsteady ∙ steady)) }
+
+-- a disk whose next call fails isn't steady
+pub failing_unsteady : (failing : List Fail) (stop : Option ℕ) (n : ℕ) → is_failing_at failing stop n ≡ true → (is_none stop && is_quiet failing n) ≡ false
+failing_unsteady failing None n is = named_quiet failing n (sym (or_none (list_any (is_at n) failing)) ∙ is)
+  where
+    or_none : (a : Bool) → (a || false) ≡ a
+    or_none true = refl
+    or_none false = refl
+failing_unsteady failing (Some stop) n is = refl

@@ -1,5 +1,5 @@
 -- What one change more makes of what a crash may leave, and of what the files hold.
-use Rattle.std.proofs.Common.{◌≡◌, ◌≢◌, inl, inr, ℕ, ◌+◌, ◌<◌, ◌≤◌, List, [], ◌∷◌, ◌++◌, length, refl, sym, ◌∙◌, ap, subst, arith, length-append, false, Option, Vec}
+use Rattle.std.proofs.Common.{◌≡◌, ◌≢◌, inl, inr, ℕ, ◌+◌, ◌<◌, ◌≤◌, List, [], ◌∷◌, ◌++◌, length, refl, sym, ◌∙◌, ap, subst, arith, length-append, true, false, Option, Vec}
 use Rattle.std.specs.Prelude.{reverse, IsSome}
 use Rattle.std.specs.declared.alloc.Global.{Global}
 use Rattle.std.specs.declared.option.Option.TheVariants.{None, Some}
@@ -13,15 +13,36 @@ use Rattle.std.proofs.lemmas.List.{take-append-le, take_all, reverse-append}
 use Rattle.std.proofs.lemmas.Bool.{cases_eq, cases_lt, false≢true}
 use Rattle.std.proofs.lemmas.Bool.Decides.{nat_tests}
 use Rattle.shard_disk.specs.Directory.{Directory, ChangesAt, Appears, Vanishes, MadeOrNot, IfThere, Torn, spliced}
-use Rattle.shard_disk.specs.Crash.{Follows, Same, IsDurable}
-use Rattle.shard_disk.proofs.Steps.{get_inserted, get_inserted_other, get_removed, get_removed_other}
+use Rattle.shard_disk.specs.Crash.{Crashes, Follows, Same, IsDurable}
+use Rattle.shard_disk.proofs.Steps.{changes_same, get_inserted, get_inserted_other, get_removed, get_removed_other}
 use Rattle.mem_disk.specs.declared.change.Change.{Change}
 use Rattle.mem_disk.specs.declared.change.Change.TheVariants.{Added, Offered, Wrote, Tore, Synced, Removed, Condemned}
 use Rattle.mem_disk.specs.History.{bytes_of, crashes_of, leaves, reads, written}
+use Rattle.mem_disk.specs.Shown.{HasAsRead, LeavesExactly, Offers, Shows}
 
-pub follows_same : (changes : List Change) → Follows Same (crashes_of changes) (crashes_of changes)
+follows_same : (changes : List Change) → Follows Same (crashes_of changes) (crashes_of changes)
 unfolding crashes_of
 follows_same changes = record { later = omega arith; each = λ c now. (c, now, refl); within = λ t c le since. inl since; keeps = λ t c le since. since }
+
+pub shows_same : (crashes : Crashes) → Shows Same crashes crashes
+shows_same crashes d c now same = subst (λ (x : Directory). crashes.now x) (sym same) now
+
+pub exactly_same : (changes : List Change) → LeavesExactly Same (crashes_of changes) (crashes_of changes)
+exactly_same changes = record { follows = follows_same changes; shows = shows_same (crashes_of changes) }
+
+-- an adoption that was begun and refused
+pub offers : (number : ℕ) (bytes : List ℕ) (old new : Crashes) → LeavesExactly (ChangesAt number (MadeOrNot (Appears bytes))) old new → Offers false true number bytes old new
+offers number bytes old new left = record {
+  appears = λ begun fits d c now made. left.shows d c now (record { here = inr made.here; others = made.others });
+  left_out = λ refused d c now same. left.shows d c now (subst (λ (x : Directory). ChangesAt number (MadeOrNot (Appears bytes)) d x) (sym same) (changes_same number (MadeOrNot (Appears bytes)) (λ file. inl refl) d));
+}
+
+-- one that was made, and one for which there was no memory
+pub offers_made : (number : ℕ) (bytes : List ℕ) (old new : Crashes) → LeavesExactly (ChangesAt number (Appears bytes)) old new → Offers false false number bytes old new
+offers_made number bytes old new left = record { appears = λ begun fits. left.shows; left_out = λ refused. absurd (false≢true refused) }
+
+pub offers_none : (number : ℕ) (bytes : List ℕ) (old new : Crashes) → Offers true false number bytes old new
+offers_none number bytes old new = record { appears = λ begun. absurd (false≢true (sym begun)); left_out = λ refused. absurd (false≢true refused) }
 
 -- the newest stands first
 pub newest_first : (changes : List Change) (change : Change) → reverse (changes ++ change ∷ []) ≡ change ∷ reverse changes
@@ -49,48 +70,62 @@ module _ (changes : List Change) (change : Change) (step : Directory → Directo
         );
   }
 
+module _ (changes : List Change) (change : Change) (step : Directory → Directory → Type 0) (made : (past : List Change) (c : Directory) → leaves (change ∷ past) c → (d : Directory) × leaves past d × step d c) (make : (past : List Change) (c : Directory) → (d : Directory) × leaves past d × step d c → leaves (change ∷ past) c) where
+  pub exactly_push : LeavesExactly step (crashes_of changes) (crashes_of (changes ++ change ∷ []))
+  unfolding crashes_of
+  exactly_push = record {
+    follows = follows_push changes change step made;
+    shows = λ d c now did. subst (λ (l : List Change). leaves l c) (sym (newest_first changes change)) (make (reverse changes) c (d, now, did));
+  }
+
 module _ (changes changes' : List Change) where
-  pub follows_none : changes' ≡ changes → Follows Same (crashes_of changes) (crashes_of changes')
-  follows_none same = subst (λ (l : List Change). Follows Same (crashes_of changes) (crashes_of l)) (sym same) (follows_same changes)
+  pub exactly_none : changes' ≡ changes → LeavesExactly Same (crashes_of changes) (crashes_of changes')
+  exactly_none same = subst (λ (l : List Change). LeavesExactly Same (crashes_of changes) (crashes_of l)) (sym same) (exactly_same changes)
 
-  pub follows_added : (number : ℕ) (copy : Vec ℕ Global) (bytes : List ℕ) → copy.items ≡ bytes → changes' ≡ changes ++ Added number copy ∷ [] → Follows (ChangesAt number (Appears bytes)) (crashes_of changes) (crashes_of changes')
-  follows_added number copy bytes same is =
-      subst (λ (b : List ℕ). Follows (ChangesAt number (Appears b)) (crashes_of changes) (crashes_of changes')) same
-      (subst (λ (l : List Change). Follows (ChangesAt number (Appears copy.items)) (crashes_of changes) (crashes_of l)) (sym is)
-      (follows_push changes (Added number copy) (ChangesAt number (Appears copy.items)) (λ past c left. left)))
+  pub exactly_added : (number : ℕ) (copy : Vec ℕ Global) (bytes : List ℕ) → copy.items ≡ bytes → changes' ≡ changes ++ Added number copy ∷ [] → LeavesExactly (ChangesAt number (Appears bytes)) (crashes_of changes) (crashes_of changes')
+  exactly_added number copy bytes same is =
+      subst (λ (b : List ℕ). LeavesExactly (ChangesAt number (Appears b)) (crashes_of changes) (crashes_of changes')) same
+      (subst (λ (l : List Change). LeavesExactly (ChangesAt number (Appears copy.items)) (crashes_of changes) (crashes_of l)) (sym is)
+      (exactly_push changes (Added number copy) (ChangesAt number (Appears copy.items)) (λ past c left. left) (λ past c left. left)))
 
-  pub follows_wrote : (number at : ℕ) (copy : Vec ℕ Global) (bytes : List ℕ) → copy.items ≡ bytes → changes' ≡ changes ++ Wrote number at copy ∷ []
-      → Follows (ChangesAt number (IfThere (Torn at (length bytes)))) (crashes_of changes) (crashes_of changes')
-  follows_wrote number at copy bytes same is =
-      subst (λ (b : List ℕ). Follows (ChangesAt number (IfThere (Torn at (length b)))) (crashes_of changes) (crashes_of changes')) same
-      (subst (λ (l : List Change). Follows (ChangesAt number (IfThere (Torn at (length copy.items)))) (crashes_of changes) (crashes_of l)) (sym is)
-      (follows_push changes (Wrote number at copy) (ChangesAt number (IfThere (Torn at (length copy.items)))) (λ past c left. left)))
+  pub exactly_wrote : (number at : ℕ) (copy : Vec ℕ Global) (bytes : List ℕ) → copy.items ≡ bytes → changes' ≡ changes ++ Wrote number at copy ∷ []
+      → LeavesExactly (ChangesAt number (IfThere (Torn at (length bytes)))) (crashes_of changes) (crashes_of changes')
+  exactly_wrote number at copy bytes same is =
+      subst (λ (b : List ℕ). LeavesExactly (ChangesAt number (IfThere (Torn at (length b)))) (crashes_of changes) (crashes_of changes')) same
+      (subst (λ (l : List Change). LeavesExactly (ChangesAt number (IfThere (Torn at (length copy.items)))) (crashes_of changes) (crashes_of l)) (sym is)
+      (exactly_push changes (Wrote number at copy) (ChangesAt number (IfThere (Torn at (length copy.items)))) (λ past c left. left) (λ past c left. left)))
 
-  pub follows_offered : (number : ℕ) (copy : Vec ℕ Global) (bytes : List ℕ) → copy.items ≡ bytes → changes' ≡ changes ++ Offered number copy ∷ [] → Follows (ChangesAt number (MadeOrNot (Appears bytes))) (crashes_of changes) (crashes_of changes')
-  follows_offered number copy bytes same is =
-      subst (λ (b : List ℕ). Follows (ChangesAt number (MadeOrNot (Appears b))) (crashes_of changes) (crashes_of changes')) same
-      (subst (λ (l : List Change). Follows (ChangesAt number (MadeOrNot (Appears copy.items))) (crashes_of changes) (crashes_of l)) (sym is)
-      (follows_push changes (Offered number copy) (ChangesAt number (MadeOrNot (Appears copy.items))) (λ past c left. left)))
+  pub exactly_offered : (number : ℕ) (copy : Vec ℕ Global) (bytes : List ℕ) → copy.items ≡ bytes → changes' ≡ changes ++ Offered number copy ∷ [] → LeavesExactly (ChangesAt number (MadeOrNot (Appears bytes))) (crashes_of changes) (crashes_of changes')
+  exactly_offered number copy bytes same is =
+      subst (λ (b : List ℕ). LeavesExactly (ChangesAt number (MadeOrNot (Appears b))) (crashes_of changes) (crashes_of changes')) same
+      (subst (λ (l : List Change). LeavesExactly (ChangesAt number (MadeOrNot (Appears copy.items))) (crashes_of changes) (crashes_of l)) (sym is)
+      (exactly_push changes (Offered number copy) (ChangesAt number (MadeOrNot (Appears copy.items))) (λ past c left. left) (λ past c left. left)))
 
-  pub follows_tore : (number at n : ℕ) → changes' ≡ changes ++ Tore number at n ∷ [] → Follows (ChangesAt number (IfThere (Torn at n))) (crashes_of changes) (crashes_of changes')
-  follows_tore number at n is =
-      subst (λ (l : List Change). Follows (ChangesAt number (IfThere (Torn at n))) (crashes_of changes) (crashes_of l)) (sym is)
-      (follows_push changes (Tore number at n) (ChangesAt number (IfThere (Torn at n))) (λ past c left. left))
+  pub exactly_tore : (number at n : ℕ) → changes' ≡ changes ++ Tore number at n ∷ [] → LeavesExactly (ChangesAt number (IfThere (Torn at n))) (crashes_of changes) (crashes_of changes')
+  exactly_tore number at n is =
+      subst (λ (l : List Change). LeavesExactly (ChangesAt number (IfThere (Torn at n))) (crashes_of changes) (crashes_of l)) (sym is)
+      (exactly_push changes (Tore number at n) (ChangesAt number (IfThere (Torn at n))) (λ past c left. left) (λ past c left. left))
 
-  pub follows_condemned : (number : ℕ) → changes' ≡ changes ++ Condemned number ∷ [] → Follows (ChangesAt number (MadeOrNot Vanishes)) (crashes_of changes) (crashes_of changes')
-  follows_condemned number is =
-      subst (λ (l : List Change). Follows (ChangesAt number (MadeOrNot Vanishes)) (crashes_of changes) (crashes_of l)) (sym is)
-      (follows_push changes (Condemned number) (ChangesAt number (MadeOrNot Vanishes)) (λ past c left. left))
+  pub exactly_condemned : (number : ℕ) → changes' ≡ changes ++ Condemned number ∷ [] → LeavesExactly (ChangesAt number (MadeOrNot Vanishes)) (crashes_of changes) (crashes_of changes')
+  exactly_condemned number is =
+      subst (λ (l : List Change). LeavesExactly (ChangesAt number (MadeOrNot Vanishes)) (crashes_of changes) (crashes_of l)) (sym is)
+      (exactly_push changes (Condemned number) (ChangesAt number (MadeOrNot Vanishes)) (λ past c left. left) (λ past c left. left))
 
   pub follows_synced : (number : ℕ) → changes' ≡ changes ++ Synced number ∷ [] → Follows Same (crashes_of changes) (crashes_of changes')
   follows_synced number is =
       subst (λ (l : List Change). Follows Same (crashes_of changes) (crashes_of l)) (sym is)
       (follows_push changes (Synced number) Same (λ past c left. (c, left.0, refl)))
 
-  pub follows_removed : (number : ℕ) → changes' ≡ changes ++ Removed number ∷ [] → Follows (ChangesAt number (MadeOrNot Vanishes)) (crashes_of changes) (crashes_of changes')
-  follows_removed number is =
-      subst (λ (l : List Change). Follows (ChangesAt number (MadeOrNot Vanishes)) (crashes_of changes) (crashes_of l)) (sym is)
-      (follows_push changes (Removed number) (ChangesAt number (MadeOrNot Vanishes)) (λ past c left. left))
+  pub exactly_removed : (number : ℕ) → changes' ≡ changes ++ Removed number ∷ [] → LeavesExactly (ChangesAt number (MadeOrNot Vanishes)) (crashes_of changes) (crashes_of changes')
+  exactly_removed number is =
+      subst (λ (l : List Change). LeavesExactly (ChangesAt number (MadeOrNot Vanishes)) (crashes_of changes) (crashes_of l)) (sym is)
+      (exactly_push changes (Removed number) (ChangesAt number (MadeOrNot Vanishes)) (λ past c left. left) (λ past c left. left))
+
+  pub shows_synced : (number : ℕ) → changes' ≡ changes ++ Synced number ∷ [] → Shows (HasAsRead number (reads (reverse changes))) (crashes_of changes) (crashes_of changes')
+  unfolding crashes_of
+  shows_synced number is d c now did =
+      subst (λ (l : List Change). leaves (reverse l) c) (sym is)
+      (subst (λ (l : List Change). leaves l c) (sym (newest_first changes (Synced number))) (subst (λ (x : Directory). leaves (reverse changes) x) (sym did.0) now, did.1))
 
   pub is_durable : (number : ℕ) → changes' ≡ changes ++ Synced number ∷ [] → IsDurable (reads (reverse changes)) (crashes_of changes') number
   unfolding crashes_of

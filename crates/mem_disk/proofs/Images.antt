@@ -1,14 +1,19 @@
 -- What a crash may leave is left as well with one file as it reads.
-use Rattle.std.proofs.Common.{◌≡◌, ◌≢◌, inl, inr, ⊎_elim, ℕ, List, [], ◌∷◌, refl, sym, ◌∙◌, subst, length, Option}
+use Rattle.std.proofs.Common.{◌≡◌, ◌≢◌, inl, inr, ⊎_elim, ℕ, List, [], ◌∷◌, true, false, refl, sym, ◌∙◌, subst, length, Option}
+use Rattle.std.specs.Prelude.{reverse}
+use Rattle.std.specs.Ordering.{nat_cmp}
 use Rattle.std.specs.declared.option.Option.TheVariants.{None, Some}
-use Rattle.std.proofs.lemmas.Bool.{cases_eq}
+use Rattle.std.proofs.lemmas.Bool.{cases_eq, false≢true}
 use Rattle.std.specs.Cmp.{nat_cmp_total}
-use Rattle.std.specs.FinMap.{empty, get, insert, remove, nat_cmp-IsAntisymmetric, same_map}
+use Rattle.std.specs.FinMap.{empty, get, get-empty, insert, remove, nat_cmp-IsAntisymmetric, same_map}
 use Rattle.shard_disk.specs.Directory.{Directory, Step, ChangesAt, Appears, Vanishes, MadeOrNot, IfThere, Torn}
 use Rattle.shard_disk.proofs.Steps.{changes_same, torn_at_same, get_inserted, get_inserted_other, get_removed, get_removed_other, inserted, removed}
 use Rattle.mem_disk.specs.declared.change.Change.{Change}
 use Rattle.mem_disk.specs.declared.change.Change.TheVariants.{Added, Offered, Wrote, Tore, Synced, Removed, Condemned}
-use Rattle.mem_disk.specs.History.{leaves, reads, written_left}
+use Rattle.shard_disk.proofs.Runs.{adds_nothing}
+use Rattle.mem_disk.specs.History.{adopted_after, choice_here, choice_other, crashes_of, leaves, reads, written_left}
+use Rattle.mem_disk.specs.Shown.{LeavesExactly}
+use Rattle.mem_disk.proofs.Changes.{exactly_same}
 
 -- directories that hold the same files are one
 pub same_directory : (c d : Directory) → ((n : ℕ) → get c n ≡ get d n) → c ≡ d
@@ -92,3 +97,94 @@ as_read (Removed m ∷ past) number c d left with =
     moved past m number (MadeOrNot Vanishes) (reads (Removed m ∷ past)) (record { here = inr gone.here; others = gone.others }) c d (as_read past number) with left
 as_read (Condemned m ∷ past) number c d left with =
     moved past m number (MadeOrNot Vanishes) (reads past) (changes_same m _ (λ file. inl refl) (reads past)) c d (as_read past number) with left
+
+-- d is c without the file
+pub record Without (number : ℕ) (c d : Directory) : Type 0 where
+  pub here : get d number ≡ None
+  pub others : (n : ℕ) → n ≢ number → get d n ≡ get c n
+
+without : (number : ℕ) (c : Directory) → Without number c (remove c number)
+without number c = record { here = get_removed c number; others = get_removed_other c number }
+
+-- one change, that is also one of directories without a file
+module _ (past : List Change) (m number : ℕ) (step : Step) (c d : Directory) (nowhere : m ≡ number → step None None) (before : (e e' : Directory) → leaves past e → Without number e e' → leaves past e') (gone : Without number c d)
+    (left : (e : Directory) × leaves past e × ChangesAt m step e c) where
+  abbrev rest : Directory
+  rest = remove left.0 number
+
+  step_here : step (get rest m) (get d m)
+  step_here = elim (cases_eq m number) [
+    | inl same ↦
+        subst (λ (k : ℕ). step (get rest k) (get d k)) (sym same)
+        (subst (λ (o : Option (List ℕ)). step o (get d number)) (sym (get_removed left.0 number))
+        (subst (λ (o : Option (List ℕ)). step None o) (sym gone.here) (nowhere same)))
+    | inr apart ↦
+        subst (λ (o : Option (List ℕ)). step o (get d m)) (sym (get_removed_other left.0 number m apart))
+        (subst (λ (o : Option (List ℕ)). step (get left.0 m) o) (sym (gone.others m apart)) left.2.here)
+  ]
+
+  step_others : (n : ℕ) → n ≢ m → get d n ≡ get rest n
+  step_others n ne = elim (cases_eq n number) [
+    | inl same ↦ subst (λ (k : ℕ). get d k ≡ get rest k) (sym same) (gone.here ∙ sym (get_removed left.0 number))
+    | inr apart ↦ gone.others n apart ∙ left.2.others n ne ∙ sym (get_removed_other left.0 number n apart)
+  ]
+
+  moved_without : (e : Directory) × leaves past e × ChangesAt m step e d
+  moved_without = (rest, before left.0 rest left.1 (without number left.0), record { here = step_here; others = step_others })
+
+-- the removal of this file, which a crash may leave undone
+removal : (past : List Change) (m number : ℕ) (c d : Directory) → m ≡ number → Without number c d → (e : Directory) × leaves past e × ChangesAt m (MadeOrNot Vanishes) e c → (e : Directory) × leaves past e × ChangesAt m (MadeOrNot Vanishes) e d
+removal past m number c d same gone left = (
+  left.0,
+  left.1,
+  record {
+    here = inr (subst (λ (k : ℕ). get d k ≡ None) (sym same) gone.here);
+    others = λ n ne. gone.others n (λ is. ne (is ∙ sym same)) ∙ left.2.others n ne;
+  },
+)
+
+-- of a file that isn't adopted a crash may also leave nothing
+pub gone_too : (past : List Change) (number : ℕ) → adopted_after past number ≡ false → (c d : Directory) → leaves past c → Without number c d → leaves past d
+gone_too [] number is c d left gone = same_directory d empty (λ n. elim (cases_eq n number) [
+  | inl same ↦ subst (λ (k : ℕ). get d k ≡ get (reads []) k) (sym same) (gone.here ∙ sym (get-empty nat_cmp number))
+  | inr apart ↦ gone.others n apart ∙ subst (λ (x : Directory). get c n ≡ get x n) left refl
+])
+gone_too (Added m bytes ∷ past) number is c d left gone = elim (cases_eq m number) [
+  | inl same ↦ absurd (false≢true (sym is ∙ choice_here m number true (adopted_after past number) same))
+  | inr apart ↦
+      moved_without past m number (Appears bytes.items) c d (λ same. absurd (apart same)) (gone_too past number (sym (choice_other m number true (adopted_after past number) apart) ∙ is)) gone left
+]
+gone_too (Offered m bytes ∷ past) number is c d left gone = moved_without past m number (MadeOrNot (Appears bytes.items)) c d (λ same. inl refl) (gone_too past number is) gone left
+gone_too (Wrote m at bytes ∷ past) number is c d left gone = moved_without past m number (IfThere (Torn at (length bytes.items))) c d (λ same. tt) (gone_too past number is) gone left
+gone_too (Tore m at n ∷ past) number is c d left gone = moved_without past m number (IfThere (Torn at n)) c d (λ same. tt) (gone_too past number is) gone left
+gone_too (Synced m ∷ past) number is c d left gone = (
+  gone_too past number is c d left.0 gone,
+  elim (cases_eq m number) [
+    | inl same ↦ inl (subst (λ (k : ℕ). get d k ≡ None) (sym same) gone.here)
+    | inr apart ↦ ⊎_elim (λ absent. inl (gone.others m apart ∙ absent)) (λ there. inr (gone.others m apart ∙ there)) left.1
+  ],
+)
+gone_too (Removed m ∷ past) number is c d left gone = elim (cases_eq m number) [
+  | inl same ↦ removal past m number c d same gone left
+  | inr apart ↦
+      moved_without past m number (MadeOrNot Vanishes) c d (λ same. inl refl) (gone_too past number (sym (choice_other m number false (adopted_after past number) apart) ∙ is)) gone left
+]
+gone_too (Condemned m ∷ past) number is c d left gone = elim (cases_eq m number) [
+  | inl same ↦ removal past m number c d same gone left
+  | inr apart ↦
+      moved_without past m number (MadeOrNot Vanishes) c d (λ same. inl refl) (gone_too past number (sym (choice_other m number false (adopted_after past number) apart) ∙ is)) gone left
+]
+
+-- a removal that adds no record, since the file isn't adopted
+pub exactly_gone : (changes : List Change) (number : ℕ) → adopted_after (reverse changes) number ≡ false → LeavesExactly (ChangesAt number (MadeOrNot Vanishes)) (crashes_of changes) (crashes_of changes)
+unfolding crashes_of
+exactly_gone changes number is = record {
+  follows = adds_nothing (ChangesAt number (MadeOrNot Vanishes)) (crashes_of changes) (crashes_of changes) (changes_same number (MadeOrNot Vanishes) (λ file. inl refl)) (exactly_same changes).follows;
+  shows = λ d c now did. ⊎_elim
+      (λ kept. subst (λ (x : Directory). leaves (reverse changes) x) (same_directory d c (λ n. elim (cases_eq n number) [
+        | inl same ↦ subst (λ (k : ℕ). get d k ≡ get c k) (sym same) (sym kept)
+        | inr apart ↦ sym (did.others n apart)
+      ])) now)
+      (λ gone. gone_too (reverse changes) number is d c now (record { here = gone; others = did.others }))
+      did.here;
+}

@@ -1,10 +1,10 @@
 -- A directory that is built from files in memory, the lowest number first.
-use Rattle.std.specs.Prelude.{◌≡◌, ℕ, ◌≤◌, List, Option, Some, None, reverse, IsSome}
+use Rattle.std.specs.Prelude.{◌≡◌, ℕ, ◌≤◌, List, Option, Some, None, reverse, IsSome, IsTrue}
 use Rattle.std.specs.BTreeMap as tree
 use Rattle.std.specs.FinMap.{get}
 use Rattle.std.specs.Ordering.{nat_cmp}
 use Rattle.shard_disk.specs.Directory.{Directory}
-use Rattle.mem_disk.specs.History.{bytes_of, crashes_of, reads}
+use Rattle.mem_disk.specs.History.{adopted_after, bytes_of, crashes_of, reads}
 use Rattle.mem_disk.specs.Opened.{IsLeastAbove}
 use Rattle.mem_disk.specs.Replayed.{Files}
 use Rattle.mem_disk.specs.declared.change.Change.{Change}
@@ -21,3 +21,4 @@ pub record IsBuilt (all rest : Files) (changes : List Change) (next : ℕ) : Typ
   pub behind : (n : ℕ) → IsSome (tree.get nat_cmp rest n) → next ≤ n
   pub durable : (image : Directory) → (crashes_of changes).now image → image ≡ reads (reverse changes)
   pub least : IsLeastAbove (reads (reverse changes)) next
+  pub adopted : (n : ℕ) → IsSome (get (reads (reverse changes)) n) → IsTrue (adopted_after (reverse changes) n)

@@ -116,10 +116,10 @@ unfolding crashes_of
 as_it_reads changes = reads_left (reverse changes)
 
 -- a test of two numbers that are one, and of two that aren't
-choice_here : (a b : ℕ) (answer rest : Bool) → a ≡ b → cond (eqb a b) answer rest ≡ answer
+pub choice_here : (a b : ℕ) (answer rest : Bool) → a ≡ b → cond (eqb a b) answer rest ≡ answer
 choice_here a b answer rest same = ap (λ (t : Bool). cond t answer rest) (eq-eqb a b same)
 
-choice_other : (a b : ℕ) (answer rest : Bool) → a ≢ b → cond (eqb a b) answer rest ≡ rest
+pub choice_other : (a b : ℕ) (answer rest : Bool) → a ≢ b → cond (eqb a b) answer rest ≡ rest
 choice_other a b answer rest apart = ap (λ (t : Bool). cond t answer rest) test
   where
     test : eqb a b ≡ false

@@ -3,9 +3,11 @@ pub mod Called
 pub mod Calls
 pub mod Closed
 pub mod Fused
+pub mod HandsOut
 pub mod HealthOf
 pub mod History
 pub mod Opened
 pub mod Progress
 pub mod Reads
 pub mod Replayed
+pub mod Shown

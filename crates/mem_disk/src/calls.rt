@@ -1,4 +1,4 @@
-ghost use Rattle.std.specs.Prelude.{◌≡◌, ◌==◌, ◌&&◌, ◌+◌, min, IsTrue, IfOk, None, is_none, false};
+ghost use Rattle.std.specs.Prelude.{◌≡◌, ◌==◌, ◌&&◌, ◌+◌, min, IsTrue, IfOk, None, is_none, false, true};
 ghost use Rattle.std.specs.List.{list_any, filter_map};
 ghost use Rattle.mem_disk.specs.Calls.{is_at, is_quiet, read_of, write_of};
 ghost use Rattle.mem_disk.specs.Called.{is_failing_at};
@@ -43,6 +43,37 @@ impl DiskCalls {
         }
     }
 
+    /// Whether the next call is to fail.
+    pub(crate) fn will_fail(&self) -> bool
+        ensures { result ≡ is_next_failing self.now }
+    {
+        is_to_fail(&self.failing, self.stop, self.next)
+    }
+
+    /// The next call is made and fails.
+    pub(crate) fn fail(&mut self)
+        requires { is_next_failing self.old ≡ true }
+        ensures failed { Failed (disk_health self.old) (disk_health self.new) }
+        ensures ages { Ages (disk_health self.old) (disk_health self.new) }
+        ensures next { self.new.next ≡ min (self.old.next + 1) last_count }
+        ensures failing { self.new.failing ≡ self.old.failing }
+        ensures stop { self.new.stop ≡ self.old.stop }
+    {
+        self.next = self.next.saturating_add(1);
+        self.faults = self.faults.saturating_add(1);
+    }
+
+    /// The next call is made and doesn't fail.
+    pub(crate) fn pass(&mut self)
+        requires { is_next_failing self.old ≡ false }
+        ensures health { disk_health self.new ≡ disk_health self.old }
+        ensures next { self.new.next ≡ min (self.old.next + 1) last_count }
+        ensures failing { self.new.failing ≡ self.old.failing }
+        ensures stop { self.new.stop ≡ self.old.stop }
+    {
+        self.next = self.next.saturating_add(1);
+    }
+
     /// Whether the next call is to fail. It is made, and counted where it fails.
     pub(crate) fn fails(&mut self) -> bool
         ensures failed { IsTrue result → Failed (disk_health self.old) (disk_health self.new) }
@@ -53,13 +84,12 @@ impl DiskCalls {
         ensures failing { self.new.failing ≡ self.old.failing }
         ensures stop { self.new.stop ≡ self.old.stop }
     {
-        let next = self.next;
-        let fails = is_to_fail(&self.failing, self.stop, next);
-        self.next = next.saturating_add(1);
-        if fails {
-            self.faults = self.faults.saturating_add(1);
+        if self.will_fail() {
+            self.fail();
+            return true;
         }
-        fails
+        self.pass();
+        false
     }
 
     /// Takes over the faults of a reader or writer.
@@ -75,6 +105,7 @@ impl DiskCalls {
     /// The calls of a reader that the call before handed out.
     pub(crate) fn of_reader(&self, alloc: Global, maker: u64) -> Result<DeviceCalls, AllocError>
         ensures fresh { IfOk result (λ calls. IsFresh (disk_health self.now) (device_health calls)) }
+        ensures failing { IfOk result (λ calls. calls.failing.items ≡ filter_map (read_of maker) self.now.failing.items) }
         ensures next { IfOk result (λ calls. calls.next ≡ 0) }
     {
         Ok(DeviceCalls {
@@ -86,7 +117,9 @@ impl DiskCalls {
 
     /// The calls of a writer that the call before handed out.
     pub(crate) fn of_writer(&self, alloc: Global, maker: u64) -> Result<DeviceCalls, AllocError>
-        ensures { IfOk result (λ calls. IsFresh (disk_health self.now) (device_health calls)) }
+        ensures fresh { IfOk result (λ calls. IsFresh (disk_health self.now) (device_health calls)) }
+        ensures failing { IfOk result (λ calls. calls.failing.items ≡ filter_map (write_of maker) self.now.failing.items) }
+        ensures next { IfOk result (λ calls. calls.next ≡ 0) }
     {
         Ok(DeviceCalls {
             failing: writes_of(alloc, &self.failing, maker)?,
@@ -97,6 +130,7 @@ impl DiskCalls {
 }
 
 impl DeviceCalls {
+    ghost use Rattle.mem_disk.specs.Called.{IsDeviceCalled};
     ghost use Rattle.mem_disk.specs.HealthOf.{device_health};
 
     /// Whether the next call is to fail. It is made, and counted where it fails.
@@ -104,7 +138,7 @@ impl DeviceCalls {
         ensures failed { IsTrue result → Failed (device_health self.old) (device_health self.new) }
         ensures ages { Ages (device_health self.old) (device_health self.new) }
         ensures passed { result ≡ false → device_health self.new ≡ device_health self.old }
-        ensures next { self.new.next ≡ min (self.old.next + 1) last_count }
+        ensures call { IsDeviceCalled result self.old self.new }
     {
         let next = self.next;
         let fails = names_place(&self.failing, next);

@@ -37,6 +37,7 @@ impl Contents {
     ghost use Rattle.shard_disk.specs.Crash.{Follows, IsDurable, Same};
     ghost use Rattle.shard_disk.specs.Directory.{Appears, ChangesAt, HasRange, IfThere, MadeOrNot, Overwritten, Torn, Vanishes};
     ghost use Rattle.mem_disk.specs.History.{Sets, crashes_of};
+    ghost use Rattle.mem_disk.specs.Shown.{HasAsRead, LeavesExactly, Offers, Shows};
 
     pub(crate) fn new(alloc: Global) -> Contents
         ensures empty { result.changes.items ≡ [] }
@@ -57,7 +58,7 @@ impl Contents {
         requires above { self.old.next ≤ no }
         requires limit { no + 1 < 2 ^ 32 }
         ensures file { OnOk result (ChangesAt no (Appears bytes.now) (reads (reverse self.old.changes.items)) (reads (reverse self.new.changes.items))) }
-        ensures crash { OnOk result (Follows (ChangesAt no (Appears bytes.now)) (crashes_of self.old.changes.items) (crashes_of self.new.changes.items)) }
+        ensures crash { OnOk result (LeavesExactly (ChangesAt no (Appears bytes.now)) (crashes_of self.old.changes.items) (crashes_of self.new.changes.items)) }
         ensures adopted { OnOk result (Sets no true (adopted_after (reverse self.old.changes.items)) (adopted_after (reverse self.new.changes.items))) }
         ensures next { OnOk result (self.new.next ≡ no + 1) }
         ensures err { OnErr result (self.new.changes.items ≡ self.old.changes.items) }
@@ -82,26 +83,30 @@ impl Contents {
         Ok(())
     }
 
-    /// Notes an adoption that is refused after it was begun, where there is a number and room.
-    pub(crate) fn refuse(&mut self, bytes: &[u8])
+    /// Notes an adoption that is refused after it was begun. Where no number is left there is nothing to begin.
+    pub(crate) fn refuse(&mut self, bytes: &[u8]) -> Result<(), AllocError>
         ensures reads { reads (reverse self.new.changes.items) ≡ reads (reverse self.old.changes.items) }
         ensures crash { Follows (ChangesAt self.old.next (MadeOrNot (Appears bytes.now))) (crashes_of self.old.changes.items) (crashes_of self.new.changes.items) }
+        ensures shows { OnOk result (Offers false true self.old.next bytes.now (crashes_of self.old.changes.items) (crashes_of self.new.changes.items)) }
         ensures adopted { adopted_after (reverse self.new.changes.items) ≡ adopted_after (reverse self.old.changes.items) }
         ensures next { self.old.next ≤ self.new.next }
+        ensures err { OnErr result (self.new.changes.items ≡ self.old.changes.items) }
+        ensures err_next { OnErr result (self.new.next ≡ self.old.next) }
     {
         if self.next == u32::MAX {
-            return;
+            return Ok(());
         }
-        let Ok(()) = self.offer(bytes) else {
-            return;
-        };
+        match self.offer(bytes) {
+            Ok(()) => Ok(()),
+            Err(AllocError) => Err(AllocError),
+        }
     }
 
     /// Notes it. Its number is passed over.
     fn offer(&mut self, bytes: &[u8]) -> Result<(), AllocError>
         requires { self.old.next + 1 < 2 ^ 32 }
         ensures reads { OnOk result (reads (reverse self.new.changes.items) ≡ reads (reverse self.old.changes.items)) }
-        ensures crash { OnOk result (Follows (ChangesAt self.old.next (MadeOrNot (Appears bytes.now))) (crashes_of self.old.changes.items) (crashes_of self.new.changes.items)) }
+        ensures crash { OnOk result (LeavesExactly (ChangesAt self.old.next (MadeOrNot (Appears bytes.now))) (crashes_of self.old.changes.items) (crashes_of self.new.changes.items)) }
         ensures adopted { OnOk result (adopted_after (reverse self.new.changes.items) ≡ adopted_after (reverse self.old.changes.items)) }
         ensures next { OnOk result (self.new.next ≡ self.old.next + 1) }
         ensures err { OnErr result (self.new.changes.items ≡ self.old.changes.items) }
@@ -124,7 +129,7 @@ impl Contents {
     pub(crate) fn write(&mut self, no: u32, at: u64, bytes: &[u8]) -> Result<(), AllocError>
         requires { HasRange (reads (reverse self.old.changes.items)) no at 0 }
         ensures written { OnOk result (ChangesAt no (IfThere (Overwritten at bytes.now)) (reads (reverse self.old.changes.items)) (reads (reverse self.new.changes.items))) }
-        ensures crash { OnOk result (Follows (ChangesAt no (IfThere (Torn at (length bytes.now)))) (crashes_of self.old.changes.items) (crashes_of self.new.changes.items)) }
+        ensures crash { OnOk result (LeavesExactly (ChangesAt no (IfThere (Torn at (length bytes.now)))) (crashes_of self.old.changes.items) (crashes_of self.new.changes.items)) }
         ensures adopted { OnOk result (adopted_after (reverse self.new.changes.items) ≡ adopted_after (reverse self.old.changes.items)) }
         ensures err { OnErr result (self.new.changes.items ≡ self.old.changes.items) }
         ensures next { self.new.next ≡ self.old.next }
@@ -145,22 +150,10 @@ impl Contents {
         Ok(())
     }
 
-    /// Notes a write that is refused after it was begun, where there is room.
-    pub(crate) fn fail_write(&mut self, no: u32, at: u64, bytes: &[u8])
-        ensures reads { reads (reverse self.new.changes.items) ≡ reads (reverse self.old.changes.items) }
-        ensures crash { Follows (ChangesAt no (IfThere (Torn at (length bytes.now)))) (crashes_of self.old.changes.items) (crashes_of self.new.changes.items) }
-        ensures adopted { adopted_after (reverse self.new.changes.items) ≡ adopted_after (reverse self.old.changes.items) }
-        ensures next { self.new.next ≡ self.old.next }
-    {
-        let Ok(()) = self.tear(no, at, bytes.len() as u64) else {
-            return;
-        };
-    }
-
-    /// Notes it.
-    fn tear(&mut self, no: u32, at: u64, len: u64) -> Result<(), AllocError>
+    /// Notes a write that is refused after it was begun.
+    pub(crate) fn tear(&mut self, no: u32, at: u64, len: u64) -> Result<(), AllocError>
         ensures reads { OnOk result (reads (reverse self.new.changes.items) ≡ reads (reverse self.old.changes.items)) }
-        ensures crash { OnOk result (Follows (ChangesAt no (IfThere (Torn at len))) (crashes_of self.old.changes.items) (crashes_of self.new.changes.items)) }
+        ensures crash { OnOk result (LeavesExactly (ChangesAt no (IfThere (Torn at len))) (crashes_of self.old.changes.items) (crashes_of self.new.changes.items)) }
         ensures adopted { OnOk result (adopted_after (reverse self.new.changes.items) ≡ adopted_after (reverse self.old.changes.items)) }
         ensures err { OnErr result (self.new.changes.items ≡ self.old.changes.items) }
         ensures next { self.new.next ≡ self.old.next }
@@ -183,6 +176,7 @@ impl Contents {
         ensures durable { IsDurable (reads (reverse self.old.changes.items)) (crashes_of self.new.changes.items) no }
         ensures reads { reads (reverse self.new.changes.items) ≡ reads (reverse self.old.changes.items) }
         ensures crash { Follows Same (crashes_of self.old.changes.items) (crashes_of self.new.changes.items) }
+        ensures shows { Shows (HasAsRead no (reads (reverse self.old.changes.items))) (crashes_of self.old.changes.items) (crashes_of self.new.changes.items) }
         ensures adopted { adopted_after (reverse self.new.changes.items) ≡ adopted_after (reverse self.old.changes.items) }
         ensures next { self.new.next ≡ self.old.next }
     {
@@ -196,7 +190,7 @@ impl Contents {
     /// Takes a file out, if it is there.
     pub(crate) fn remove(&mut self, no: u32)
         ensures removed { ChangesAt no Vanishes (reads (reverse self.old.changes.items)) (reads (reverse self.new.changes.items)) }
-        ensures crash { Follows (ChangesAt no (MadeOrNot Vanishes)) (crashes_of self.old.changes.items) (crashes_of self.new.changes.items) }
+        ensures crash { LeavesExactly (ChangesAt no (MadeOrNot Vanishes)) (crashes_of self.old.changes.items) (crashes_of self.new.changes.items) }
         ensures adopted { Sets no false (adopted_after (reverse self.old.changes.items)) (adopted_after (reverse self.new.changes.items)) }
         ensures next { self.new.next ≡ self.old.next }
     {
@@ -209,7 +203,7 @@ impl Contents {
     /// Notes a removal that is refused.
     pub(crate) fn condemn(&mut self, no: u32)
         ensures reads { reads (reverse self.new.changes.items) ≡ reads (reverse self.old.changes.items) }
-        ensures crash { Follows (ChangesAt no (MadeOrNot Vanishes)) (crashes_of self.old.changes.items) (crashes_of self.new.changes.items) }
+        ensures crash { LeavesExactly (ChangesAt no (MadeOrNot Vanishes)) (crashes_of self.old.changes.items) (crashes_of self.new.changes.items) }
         ensures adopted { Sets no false (adopted_after (reverse self.old.changes.items)) (adopted_after (reverse self.new.changes.items)) }
         ensures next { self.new.next ≡ self.old.next }
     {

@@ -108,12 +108,14 @@ impl Disk for MemDisk {
     ghost use Rattle.shard_disk.specs.HandedOut.{GivesUp, OneMoreReader};
     ghost use Rattle.shard_disk.specs.Health.{FaultHasCause, HasCause, IsFresh, RefusalHasCause, TakesOver};
     ghost use Rattle.shard_disk.specs.Stage.{Finished, Open};
-    ghost use Rattle.mem_disk.specs.Called.{IsCalled, IsUncounted, is_fault, is_refused_by_fault};
+    ghost use Rattle.mem_disk.specs.Called.{IsCalled, IsCalledOrPutOff, IsUncounted, is_fault, is_memory, is_refused_by_fault, is_refused_for_memory};
     ghost use Rattle.mem_disk.specs.Closed.{closed_lowest_of, files_of, handed_out_of, health_of, left_of};
+    ghost use Rattle.mem_disk.specs.HandsOut.{HandsReader, HandsWriter};
     ghost use Rattle.mem_disk.specs.HealthOf.{device_health, disk_health};
     ghost use Rattle.mem_disk.specs.History.{adopted_after, as_it_reads, crashes_of, keeps_all, now_alone, now_counts, reads};
     ghost use Rattle.mem_disk.specs.Progress.{stage_of};
-    ghost use Rattle.mem_disk.specs.Reads.{lowest_of, reads_of};
+    ghost use Rattle.mem_disk.specs.Reads.{lowest_of};
+    ghost use Rattle.mem_disk.specs.Shown.{HasAsRead, LeavesBut, LeavesExactly, Offers, Shows};
 
     type Reader = MemReader;
 
@@ -144,11 +146,9 @@ impl Disk for MemDisk {
     ghost only_now = { λ m c since. now_alone m.contents.changes.items c since };
 
     fn begin(&mut self) -> Result<MemWriter, Trouble>
-        ensures empty { IfOk result (λ writer. writer.bytes.items ≡ []) }
-        ensures open { IfOk result (λ writer. stage_of writer.progress ≡ Open) }
-        ensures fresh { IfOk result (λ writer. IsFresh (health_of self.old) (device_health writer.calls)) }
+        ensures ok { IfOk result (λ writer. HandsWriter self.old writer) }
         ensures files { files_of self.new ≡ files_of self.old }
-        ensures crash { Follows Same (left_of self.old) (left_of self.new) }
+        ensures crash { LeavesExactly Same (left_of self.old) (left_of self.new) }
         ensures handed_out { handed_out_of self.new ≡ handed_out_of self.old }
         ensures fault { HasCause result (health_of self.old) (health_of self.new) }
         ensures call { IsCalled (is_fault result) self.old self.new }
@@ -175,12 +175,18 @@ impl Disk for MemDisk {
         ensures memory { IfErr result (λ refused. refused.1 ≡ Trouble.Memory
             → NeverBegan (left_of self.old) (left_of self.new) (handed_out_of self.old) (handed_out_of self.new)) }
         ensures fault { RefusalHasCause result (health_of self.old) (health_of self.new) }
-        ensures call { IsCalled (is_refused_by_fault result) self.old self.new }
+        ensures shows { Offers (is_refused_for_memory result) (is_refused_by_fault result) (handed_out_of self.old).next_number writer.bytes.items (left_of self.old) (left_of self.new) }
+        ensures call { IsCalledOrPutOff (is_refused_for_memory result) (is_refused_by_fault result) self.old self.new }
     {
-        if self.calls.fails() {
-            self.contents.refuse(&writer.bytes);
+        if self.calls.will_fail() {
+            // What can't be noted isn't begun.
+            if let Err(AllocError) = self.contents.refuse(&writer.bytes) {
+                return Err((writer, Trouble::Memory));
+            }
+            self.calls.fail();
             return Err((writer, Trouble::Fault));
         }
+        self.calls.pass();
         let no = self.contents.next;
         if no == u32::MAX {
             return Err((writer, Trouble::Memory));
@@ -193,7 +199,7 @@ impl Disk for MemDisk {
 
     fn drop_writer(&mut self, writer: MemWriter)
         ensures files { files_of self.new ≡ files_of self.old }
-        ensures crash { Follows Same (left_of self.old) (left_of self.new) }
+        ensures crash { LeavesExactly Same (left_of self.old) (left_of self.new) }
         ensures handed_out { handed_out_of self.new ≡ handed_out_of self.old }
         ensures health { TakesOver (device_health writer.calls) (health_of self.old) (health_of self.new) }
         ensures uncounted { IsUncounted self.old self.new }
@@ -203,13 +209,11 @@ impl Disk for MemDisk {
 
     fn open(&mut self, no: u32) -> Result<MemReader, Trouble>
         requires { IsPresent (files_of self.old) no }
-        ensures ok { IfOk result (λ reader. Opens (IsTrue true) no (files_of self.old) (handed_out_of self.old) reader.no reader.bytes.items) }
-        ensures fresh { IfOk result (λ reader. IsFresh (health_of self.old) (device_health reader.calls)) }
-        ensures unread { IfOk result (λ reader. reads_of reader ≡ 0) }
+        ensures ok { IfOk result (λ reader. HandsReader no self.old reader) }
         ensures out { OnOk result (OneMoreReader no (handed_out_of self.old) (handed_out_of self.new)) }
         ensures refused { OnErr result (handed_out_of self.new ≡ handed_out_of self.old) }
         ensures files { files_of self.new ≡ files_of self.old }
-        ensures crash { Follows Same (left_of self.old) (left_of self.new) }
+        ensures crash { LeavesExactly Same (left_of self.old) (left_of self.new) }
         ensures fault { HasCause result (health_of self.old) (health_of self.new) }
         ensures call { IsCalled (is_fault result) self.old self.new }
     {
@@ -240,7 +244,7 @@ impl Disk for MemDisk {
         requires { 0 < (handed_out_of self.old).readers reader.no }
         ensures out { OneMoreReader reader.no (handed_out_of self.new) (handed_out_of self.old) }
         ensures files { files_of self.new ≡ files_of self.old }
-        ensures crash { Follows Same (left_of self.old) (left_of self.new) }
+        ensures crash { LeavesExactly Same (left_of self.old) (left_of self.new) }
         ensures health { TakesOver (device_health reader.calls) (health_of self.old) (health_of self.new) }
         ensures lowest { closed_lowest_of self.new ≡ lowest_of reader }
         ensures uncounted { IsUncounted self.old self.new }
@@ -256,16 +260,21 @@ impl Disk for MemDisk {
         requires { HasRange (files_of self.old) no at 0 }
         ensures written { OnOk result (ChangesAt no (IfThere (Overwritten at bytes.now)) (files_of self.old) (files_of self.new)) }
         ensures torn { ChangesAt no (IfThere (Torn at (length bytes.now))) (files_of self.old) (files_of self.new) }
-        ensures crash { Follows (ChangesAt no (IfThere (Torn at (length bytes.now)))) (left_of self.old) (left_of self.new) }
+        ensures crash { LeavesBut (is_memory result) (ChangesAt no (IfThere (Torn at (length bytes.now)))) (left_of self.old) (left_of self.new) }
         ensures memory { IsErrOf result Trouble.Memory → WritesNone (files_of self.old) (files_of self.new) (left_of self.old) (left_of self.new) }
         ensures handed_out { handed_out_of self.new ≡ handed_out_of self.old }
         ensures fault { HasCause result (health_of self.old) (health_of self.new) }
-        ensures call { IsCalled (is_fault result) self.old self.new }
+        ensures call { IsCalledOrPutOff (is_memory result) (is_fault result) self.old self.new }
     {
-        if self.calls.fails() {
-            self.contents.fail_write(no, at, bytes);
+        if self.calls.will_fail() {
+            // What can't be noted isn't begun.
+            if let Err(AllocError) = self.contents.tear(no, at, bytes.len() as u64) {
+                return Err(Trouble::Memory);
+            }
+            self.calls.fail();
             return Err(Trouble::Fault);
         }
+        self.calls.pass();
         match self.contents.write(no, at, bytes) {
             Ok(()) => Ok(()),
             Err(AllocError) => Err(Trouble::Memory),
@@ -277,6 +286,7 @@ impl Disk for MemDisk {
         ensures durable { OnOk result (IsDurable (files_of self.old) (left_of self.new) no) }
         ensures files { files_of self.new ≡ files_of self.old }
         ensures crash { Follows Same (left_of self.old) (left_of self.new) }
+        ensures shows { Shows (HasAsRead no (files_of self.old)) (left_of self.old) (left_of self.new) }
         ensures handed_out { handed_out_of self.new ≡ handed_out_of self.old }
         ensures fault { FaultHasCause result (health_of self.old) (health_of self.new) }
         ensures call { IsCalled (is_err result) self.old self.new }
@@ -292,7 +302,7 @@ impl Disk for MemDisk {
         requires { HasRange (files_of self.old) no at (length out.old) }
         ensures read { OnOk result (HasFile (files_of self.old) no (λ file. out.new ≡ bytes_at file at (length out.old))) }
         ensures files { files_of self.new ≡ files_of self.old }
-        ensures crash { Follows Same (left_of self.old) (left_of self.new) }
+        ensures crash { LeavesExactly Same (left_of self.old) (left_of self.new) }
         ensures handed_out { handed_out_of self.new ≡ handed_out_of self.old }
         ensures fault { FaultHasCause result (health_of self.old) (health_of self.new) }
         ensures call { IsCalled (is_err result) self.old self.new }
@@ -311,7 +321,7 @@ impl Disk for MemDisk {
         ensures length { IfOk result (λ len. HasFile (files_of self.old) no (λ file. len ≡ length file)) }
         ensures known { OnOk result (no < (handed_out_of self.old).next_number) }
         ensures files { files_of self.new ≡ files_of self.old }
-        ensures crash { Follows Same (left_of self.old) (left_of self.new) }
+        ensures crash { LeavesExactly Same (left_of self.old) (left_of self.new) }
         ensures handed_out { handed_out_of self.new ≡ handed_out_of self.old }
         ensures fault { FaultHasCause result (health_of self.old) (health_of self.new) }
         ensures call { IsCalled (is_err result) self.old self.new }
@@ -326,7 +336,7 @@ impl Disk for MemDisk {
         requires { (handed_out_of self.old).readers no ≡ 0 }
         ensures removed { OnOk result (ChangesAt no Vanishes (files_of self.old) (files_of self.new)) }
         ensures refused { OnErr result (files_of self.new ≡ files_of self.old) }
-        ensures crash { Follows (ChangesAt no (MadeOrNot Vanishes)) (left_of self.old) (left_of self.new) }
+        ensures crash { LeavesExactly (ChangesAt no (MadeOrNot Vanishes)) (left_of self.old) (left_of self.new) }
         ensures gone { GivesUp no (handed_out_of self.old) (handed_out_of self.new) }
         ensures fault { FaultHasCause result (health_of self.old) (health_of self.new) }
         ensures call { IsCalled (is_err result) self.old self.new }
@@ -343,7 +353,7 @@ impl Disk for MemDisk {
         ensures numbers { IfOk result (λ numbers. numbers.items ≡ keys (files_of self.old)) }
         ensures known { IfOk result (λ numbers. All (λ no. no < (handed_out_of self.old).next_number) numbers.items) }
         ensures files { files_of self.new ≡ files_of self.old }
-        ensures crash { Follows Same (left_of self.old) (left_of self.new) }
+        ensures crash { LeavesExactly Same (left_of self.old) (left_of self.new) }
         ensures handed_out { handed_out_of self.new ≡ handed_out_of self.old }
         ensures fault { HasCause result (health_of self.old) (health_of self.new) }
         ensures call { IsCalled (is_fault result) self.old self.new }

@@ -1,6 +1,7 @@
-ghost use Rattle.std.specs.Prelude.{◌≡◌, ℕ, reverse, IfOk};
+ghost use Rattle.std.specs.Prelude.{◌≡◌, ℕ, reverse, IfOk, IsSome, IsTrue};
+ghost use Rattle.std.specs.FinMap.{get};
 ghost use Rattle.shard_disk.specs.Directory.{Directory};
-ghost use Rattle.mem_disk.specs.History.{crashes_of, reads};
+ghost use Rattle.mem_disk.specs.History.{adopted_after, crashes_of, reads};
 ghost use Rattle.mem_disk.specs.Opened.{IsLeastAbove};
 ghost use Rattle.mem_disk.specs.Replayed.{AreFiles};
 
@@ -16,6 +17,8 @@ pub(crate) fn contents_of(
     ensures files { IfOk result (λ contents. AreFiles (reads (reverse contents.changes.items)) files) }
     ensures durable { IfOk result (λ contents. (image : Directory) → (crashes_of contents.changes.items).now image
         → image ≡ reads (reverse contents.changes.items)) }
+    ensures adopted { IfOk result (λ contents. (n : ℕ) → IsSome (get (reads (reverse contents.changes.items)) n)
+        → IsTrue (adopted_after (reverse contents.changes.items) n)) }
     ensures next { IfOk result (λ contents. IsLeastAbove (reads (reverse contents.changes.items)) contents.next) }
 {
     let mut contents = Contents::new(alloc);

@@ -21,6 +21,3 @@ pub use fail::Fail;
 pub use fuse::Fuse;
 pub use reader::MemReader;
 pub use writer::{MemWriter, Progress};
-
-#[cfg(test)]
-mod tests;

@@ -43,9 +43,10 @@ impl MemReader {
 }
 
 impl Reader for MemReader {
-    ghost use Rattle.std.specs.Prelude.{◌≡◌, ◌+◌, ◌≤◌, length, true, IsTrue, OnOk};
+    ghost use Rattle.std.specs.Prelude.{◌≡◌, ◌+◌, ◌≤◌, length, true, is_err, IsTrue, OnOk};
     ghost use Rattle.shard_disk.specs.Directory.{bytes_at};
     ghost use Rattle.shard_disk.specs.Health.{FaultHasCause};
+    ghost use Rattle.mem_disk.specs.Called.{IsDeviceCalled};
     ghost use Rattle.mem_disk.specs.HealthOf.{device_health};
     ghost use Rattle.mem_disk.specs.Reads.{Counts};
 
@@ -64,6 +65,7 @@ impl Reader for MemReader {
         ensures file { self.new.no ≡ self.old.no }
         ensures fault { FaultHasCause result (device_health self.old.calls) (device_health self.new.calls) }
         ensures counted { Counts at self.old self.new }
+        ensures call { IsDeviceCalled (is_err result) self.old.calls self.new.calls }
     {
         self.lowest = Some(self.lowest.unwrap_or(at).min(at));
         self.latest = Some(at);

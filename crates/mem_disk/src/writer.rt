@@ -25,6 +25,13 @@ pub struct MemWriter {
 }
 
 impl Writer for MemWriter {
+    ghost use Rattle.std.specs.Prelude.{◌≡◌, ◌≢◌, ◌++◌, true, is_err, OnErr, OnOk};
+    ghost use Rattle.shard_disk.specs.Health.{FaultHasCause, HasCause};
+    ghost use Rattle.shard_disk.specs.Stage.{Finished, Open, Refused};
+    ghost use Rattle.mem_disk.specs.Called.{IsDeviceCalled, is_fault};
+    ghost use Rattle.mem_disk.specs.HealthOf.{device_health};
+    ghost use Rattle.mem_disk.specs.Progress.{stage_of};
+
     ghost tells = { true };
 
     ghost content = { λ w. w.bytes.items };
@@ -33,7 +40,14 @@ impl Writer for MemWriter {
 
     ghost health = { λ w. device_health w.calls };
 
-    fn append(&mut self, bytes: &[u8]) -> Result<(), Trouble> {
+    fn append(&mut self, bytes: &[u8]) -> Result<(), Trouble>
+        requires { stage_of self.old.progress ≢ Refused }
+        ensures appended { OnOk result (self.new.bytes.items ≡ self.old.bytes.items ++ bytes.now) }
+        ensures open { OnOk result (stage_of self.new.progress ≡ Open) }
+        ensures refused { OnErr result (stage_of self.new.progress ≡ Refused) }
+        ensures fault { HasCause result (device_health self.old.calls) (device_health self.new.calls) }
+        ensures call { IsDeviceCalled (is_fault result) self.old.calls self.new.calls }
+    {
         self.progress = Progress::Refused;
         if self.calls.fails() {
             return Err(Trouble::Fault);
@@ -43,7 +57,14 @@ impl Writer for MemWriter {
         Ok(())
     }
 
-    fn finish(&mut self) -> Result<(), Fault> {
+    fn finish(&mut self) -> Result<(), Fault>
+        requires { stage_of self.old.progress ≢ Refused }
+        ensures content { self.new.bytes.items ≡ self.old.bytes.items }
+        ensures finished { OnOk result (stage_of self.new.progress ≡ Finished) }
+        ensures refused { OnErr result (stage_of self.new.progress ≡ Refused) }
+        ensures fault { FaultHasCause result (device_health self.old.calls) (device_health self.new.calls) }
+        ensures call { IsDeviceCalled (is_err result) self.old.calls self.new.calls }
+    {
         self.progress = Progress::Refused;
         if self.calls.fails() {
             return Err(Fault);

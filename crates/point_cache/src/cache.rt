@@ -1,6 +1,7 @@
 // The cache.
 use crate::freezing::{freeze, stage_batch};
 use crate::key_points::KeyPoints;
+use crate::rows::copy_within;
 use crate::runs::Runs;
 use std::alloc::{AllocError, Global};
 use std::marker::Model;
@@ -50,7 +51,7 @@ impl PointCache {
     ghost use Rattle.std.specs.List.{AllByRecursion};
     ghost use Rattle.point_cache.specs.declared.key_points.KeyPoints.{KeyPoints};
     ghost use Rattle.point_cache.specs.declared.key_points.KeyRun.{KeyRun};
-    ghost use Rattle.point_cache.specs.Cached.{AreRuns, IsRun, KeysAscend, count, points_at, rows_within};
+    ghost use Rattle.point_cache.specs.Cached.{AreAscending, AreRuns, IsRun, KeysAscend, count, points_at, rows_within};
     ghost use Rattle.point_cache.specs.Calls.{SetsPoints, TakesAway, Freezes};
 
     /// A cache without points, and without a snapshot.
@@ -145,7 +146,15 @@ impl PointCache {
     ) -> Result<Vec<(Time, Value)>, AllocError>
         ensures { IfOk result (λ copy. copy.items ≡ rows_within from to (points_at self.now.runs key.now)) }
     {
-        self.runs.within(key, from, to)
+        copy_within(self.alloc, self.rows_of(key), from, to)
+    }
+
+    /// The points of a key, by ascending time; none where it has none. Those of the snapshot are not among them.
+    pub fn rows_of(&self, key: &[u8]) -> &[(Time, Value)]
+        ensures points { result.now ≡ points_at self.now.runs key.now }
+        ensures ascending { AreAscending result.now }
+    {
+        self.runs.rows_of(key)
     }
 
     /// How many keys have points.

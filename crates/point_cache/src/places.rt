@@ -1,5 +1,5 @@
 // Places in a table of runs.
-ghost use Rattle.std.specs.Prelude.{◌≡◌, ◌<◌, ◌≤◌, ℕ, List, ◌+◌, length, sum_by, slice_get, Some, None, IsTrue, OnOk, OnErr, IfOk};
+ghost use Rattle.std.specs.Prelude.{◌≡◌, ◌<◌, ◌≤◌, ℕ, List, ◌+◌, length, sum_by, slice_get, Some, None, IsTrue, IfSome, ◌≢◌, OnOk, OnErr, IfOk};
 ghost use Rattle.std.specs.Prelude.{nat_eq};
 ghost use Rattle.std.specs.Cmp.Lexicographic.{pointwise};
 ghost use Rattle.std.specs.declared.vec.Vec.{Vec};
@@ -7,8 +7,8 @@ ghost use Rattle.std.specs.declared.alloc.Global.{Global};
 ghost use Rattle.indexmap.specs.IndexMap.{get_by};
 ghost use Rattle.tsdb_types.specs.Keys.{key_of};
 ghost use Rattle.point_cache.specs.Cached.{AreAscending};
-ghost use Rattle.point_cache.specs.Staged.{Entry, AreCovered, AreSettled, IsStaging, entries_of, lives, nexts, plain};
-ghost use Rattle.point_cache.specs.Steps.{AddsKey, GoesOn, FindsKey, ChangesAt, commit_of, discard_of, Settles, SettlesAt, SettlesRun, StagesAt};
+ghost use Rattle.point_cache.specs.Staged.{Among, Entry, AreCovered, AreSettled, IsStaging, entries_of, lives, nexts, plain};
+ghost use Rattle.point_cache.specs.Steps.{AddsKey, HasKey, GoesOn, FindsKey, ChangesAt, commit_of, discard_of, Settles, SettlesAt, SettlesRun, StagesAt};
 
 use crate::run::Run;
 use indexmap::IndexMap;
@@ -61,6 +61,76 @@ pub(crate) fn add_key(
     let place = map.len();
     map.insert(key, Run::new(alloc))?;
     Ok(place)
+}
+
+// Notes a place as touched, where a batch staged nothing there before.
+pub(crate) fn touch(
+    map: &IndexMap<Vec<u8>, Run>,
+    touched: &mut Vec<usize>,
+    place: usize,
+) -> Result<(), AllocError>
+    requires { AreCovered touched.old.items (entries_of map.now.entries) }
+    ensures touched { OnOk result (Among touched.new.items place) }
+    ensures kept { (other : ℕ) → Among touched.old.items other → Among touched.new.items other }
+{
+    if is_staged_at(map, place) {
+        return Ok(());
+    }
+    touched.push(place)?;
+    Ok(())
+}
+
+// Whether points are staged at a place.
+fn is_staged_at(map: &IndexMap<Vec<u8>, Run>, place: usize) -> bool
+    ensures { IsTrue result → (entry : Entry) × (slice_get (entries_of map.now.entries) place ≡ Some entry) × (entry.1.next ≢ entry.1.live) }
+{
+    match map.get_index(place) {
+        Some((_, run)) => run.is_staged(),
+        None => false,
+    }
+}
+
+// The touched place at a place of the list, where it is that of a cell's key.
+pub(crate) fn follows(
+    map: &IndexMap<Vec<u8>, Run>,
+    touched: &[usize],
+    at: usize,
+    cell: &Cell,
+) -> Option<usize>
+    ensures key { IfSome result (λ place. HasKey (entries_of map.now.entries) place (key_of cell.now.series cell.now.field)) }
+    ensures touched { IfSome result (Among touched.now) }
+{
+    if at >= touched.len() {
+        return None;
+    }
+    let place = touched[at];
+    if is_key_at(map, place, cell) {
+        return Some(place);
+    }
+    None
+}
+
+// Whether a place has the key of a cell.
+fn is_key_at(map: &IndexMap<Vec<u8>, Run>, place: usize, cell: &Cell) -> bool
+    ensures { IsTrue result → HasKey (entries_of map.now.entries) place (key_of cell.now.series cell.now.field) }
+{
+    match map.get_index(place) {
+        Some((key, _)) => is_key_of(key.as_slice(), cell),
+        None => false,
+    }
+}
+
+// Whether these bytes are the composite key of a cell.
+fn is_key_of(key: &[u8], cell: &Cell) -> bool
+    ensures { IsTrue result → key.now ≡ key_of cell.now.series cell.now.field }
+{
+    let Some(behind) = key.strip_prefix(cell.series.text().as_bytes()) else {
+        return false;
+    };
+    let Some(field) = behind.strip_prefix(MARK) else {
+        return false;
+    };
+    field == cell.field.as_str().as_bytes()
 }
 
 // Stages a point at a place.

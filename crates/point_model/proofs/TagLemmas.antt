@@ -9,6 +9,7 @@ use Rattle.tsdb_types.specs.Series.{escaped, measurement_ends_at, tag_ends_at, t
 use Rattle.tsdb_types.specs.Spelled.{unescaped}
 use Rattle.tsdb_types.specs.declared.tag.Tag.{Tag}
 use Rattle.tsdb_types.proofs.SpelledLemmas.{unescaped-escaped}
+use Rattle.point_model.specs.Measurements.{head_behind}
 use Rattle.point_model.specs.Tags.{front, rest, behind, parts, parts_behind, tag_of, text_of, TagsAreRead}
 
 decided : (b : Bool) → (b ≡ true) ⊎ (b ≡ false)
@@ -194,3 +195,8 @@ text-step key left first more part after spelled is e p a s t =
     ap (λ (ps : List (List ℕ)). text_of key (map tag_of ps)) (parts-step left first more part after e p a)
     ∙ ap (λ (b : Bool). cond b (unescaped tag_ends_at (behind (rest 61 false part))) others)
     (sym (t ∙ ap (λ (k : List ℕ). bytes_eq (unescaped tag_ends_at k) key) s))
+
+-- the measurement ends before the first comma that isn't escaped
+pub front-head : (slash : Bool) (text : List ℕ) → front 44 slash text ≡ head_behind slash text
+front-head slash [] = refl
+front-head slash (byte ∷ text) = ap (λ (t : List ℕ). cond (eqb byte 44 && not slash) [] (byte ∷ t)) (front-head (eqb byte 92) text)

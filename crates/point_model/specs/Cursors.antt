@@ -15,6 +15,7 @@ use Rattle.tsdb_types.specs.declared.value.Kind.{Kind}
 use Rattle.point_model.specs.declared.need.Need.{Need}
 use Rattle.point_model.specs.declared.names.Names.{Names}
 use Rattle.point_model.specs.Conditions.{meets}
+use Rattle.point_model.specs.Contents.{Content}
 use Rattle.point_model.specs.Points.{Points, value_at}
 use Rattle.point_model.specs.Rows.{Row, is_of}
 
@@ -28,6 +29,10 @@ key_cmp a b = ordering_then (slice_cmp nat_cmp a.0 b.0) (slice_cmp nat_cmp a.1 b
 
 abbrev pub cell_at : Key → ℤ → Cell
 cell_at key time = record { time = time; series = key.0; field = key.1 }
+
+-- something is live at a cell of the key
+abbrev pub HasKey : Content → Key → Type 0
+HasKey content key = (time : ℤ) × IsSome (content (cell_at key time))
 
 -- the series is of the measurement, and has a tag with this key
 abbrev pub HasTagKey : List ℕ → List ℕ → List ℕ → Type 0

@@ -5,6 +5,7 @@ use Rattle.tsdb_types.specs.declared.point.Cell.{Cell}
 use Rattle.point_model.specs.declared.deletion.Deletion.{Deletion}
 use Rattle.point_model.specs.Conditions.{meets, texts_of, nesting}
 use Rattle.point_model.specs.Points.{Points}
+use Rattle.point_model.specs.Sizes.{deletion_length, most_bytes}
 
 -- the cell is of a series of the measurement that meets the condition, and its time one of those between the bounds
 abbrev pub is_deleted : Deletion → Cell → Bool
@@ -16,8 +17,9 @@ is_deleted deletion cell =
 abbrev pub without : Points → Deletion → Points
 without points deletion = filter (λ point. not (is_deleted deletion point.0)) points
 
--- a deletion that a record of a log has room for: its texts have at most 65,535 bytes, and it is nested at most 65,536 deep
+-- A deletion that a log takes: its texts have at most 65,535 bytes, it is nested at most 65,536 deep, and a record has room for it.
 pub record IsLoggable (deletion : Deletion) : Type 0 where
   pub measurement : length deletion.measurement ≤ 65535
   pub texts : All (λ text. length text ≤ 65535) (texts_of deletion.tags)
   pub nested : nesting deletion.tags ≤ 65536
+  pub fits : deletion_length deletion ≤ most_bytes

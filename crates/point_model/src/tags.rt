@@ -1,13 +1,38 @@
-// The tags of a series, as its text tells them. Nothing is copied.
-ghost use Rattle.std.specs.Prelude.{◌≡◌, ◌<◌, ◌∷◌, [], false, length, IfSome, IfNone};
+// The measurement and the tags of a series, as its text tells them.
+ghost use Rattle.std.specs.Prelude.{◌≡◌, ◌<◌, ◌∷◌, [], false, length, IfOk, IfSome, IfNone};
 ghost use Rattle.std.specs.Str.{bytes_eq};
 ghost use Rattle.tsdb_types.specs.Series.{tag_ends_at};
 ghost use Rattle.tsdb_types.specs.Spelled.{unescaped};
+ghost use Rattle.point_model.specs.Measurements as measurements;
 ghost use Rattle.point_model.specs.Tags as spec;
 
+use std::alloc::{AllocError, Global};
 use tsdb_types::{Name, SeriesKey};
 
 const TAG_ENDS: &[u8] = b",= ";
+
+/// The measurement of a series, as its text begins with it: with a backslash before each comma and space.
+pub fn measurement_head(series: &SeriesKey) -> &[u8]
+    ensures { result.now ≡ measurements.measurement_head series.now }
+{
+    let (head, _tags) = cut(series.text().as_bytes(), b',');
+    head
+}
+
+/// The text that the tag with this key has in a series, without the backslashes of the series' text; none where it has no such
+/// tag.
+pub fn text_of_tag(alloc: Global, series: &SeriesKey, key: &Name) -> Result<Vec<u8>, AllocError>
+    ensures { IfOk result (λ text. text.items ≡ spec.tag_text key.now series.now) }
+{
+    let spelled = tag_value(series.text().as_bytes(), key.as_str().as_bytes());
+    let mut text = Vec::with_capacity(alloc, spelled.len())?;
+    let mut left = spelled;
+    while let Some((byte, behind)) = first_spelled(left) {
+        text.push(byte)?;
+        left = behind;
+    }
+    Ok(text)
+}
 
 // Whether the tag with this key has this text in the series. A tag that the series lacks has the empty text.
 pub(crate) fn has_tag_text(series: &SeriesKey, key: &Name, text: &[u8]) -> bool
@@ -82,6 +107,7 @@ fn spells(part: &[u8], text: &[u8]) -> bool
 // The first byte that a part spells, and the part behind it.
 fn first_spelled(part: &[u8]) -> Option<(u8, &[u8])>
     ensures some { IfSome result (λ first. unescaped tag_ends_at part.now ≡ first.0 ∷ unescaped tag_ends_at first.1.now) }
+    ensures shorter { IfSome result (λ first. length first.1.now < length part.now) }
     ensures none { IfNone result (unescaped tag_ends_at part.now ≡ []) }
 {
     match part.split_first() {

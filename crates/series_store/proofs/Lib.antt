@@ -3,4 +3,3 @@ pub mod FormatLemmas
 pub mod TakeLemmas
 pub mod HoldLemmas
 pub mod OnceLemmas
-pub mod TestLemmas

@@ -88,19 +88,18 @@ no_append [] ys key a b id h = b id h
 no_append (x ∷ xs) ys key a b zero h = a zero h
 no_append (x ∷ xs) ys key a b (suc id) h = no_append xs ys key (λ i g. a (suc i) g) b id h
 
--- a key of different ones is none of those before it
-not_before : (keys : List (List ℕ)) (i : ℕ) (d : List ℕ) → IsDistinct (pointwise nat_eq) keys → i < length keys → HasNoId (take i keys) (get_or keys i d)
-unfolding IsDistinct
-not_before [] i d e within id h = omega (arith, within)
-not_before (k ∷ ks) zero d e within id h = cc h
-not_before (k ∷ ks) (suc i) d e within zero h =
-    let at = all_at (λ y. pointwise nat_eq k y ≡ false) ks i d e.0 (omega (arith, within)) in
-    false≢true (sym at ∙ keys_equal k (get_or ks i d) (head_is k (get_or ks i d) (take i ks) h))
-not_before (k ∷ ks) (suc i) d e within (suc id) h = not_before ks i d e.1 (omega (arith, within)) id h
+-- keys that aren't held, and differ from one more, aren't held with it
+pub fresh_more : (held : List (List ℕ)) (key : List ℕ) (more : List (List ℕ)) → AllByRecursion (HasNoId held) more → AllByRecursion (λ y. pointwise nat_eq key y ≡ false) more → AllByRecursion (HasNoId (held ++ key ∷ [])) more
+fresh_more held key [] fresh apart = tt
+fresh_more held key (y ∷ more) fresh apart = (no_append held (key ∷ []) y fresh.0 (not_one key y apart.0), fresh_more held key more fresh.1 apart.1)
+  where
+    not_one : (key y : List ℕ) → pointwise nat_eq key y ≡ false → HasNoId (key ∷ []) y
+    not_one key y other zero h = false≢true (sym other ∙ keys_equal key y (head_is key y [] h))
+    not_one key y other (suc id) h = cc h
 
--- so it is none of those that are held when it comes
-pub still_fresh : (held keys : List (List ℕ)) (i : ℕ) (d : List ℕ) → AllByRecursion (HasNoId held) keys → IsDistinct (pointwise nat_eq) keys → i < length keys → HasNoId (held ++ take i keys) (get_or keys i d)
-still_fresh held keys i d fresh distinct within = no_append held (take i keys) (get_or keys i d) (all_at (HasNoId held) keys i d fresh within) (not_before keys i d distinct within)
+pub distinct_parts : (key : List ℕ) (more : List (List ℕ)) → IsDistinct (pointwise nat_eq) (key ∷ more) → AllByRecursion (λ y. pointwise nat_eq key y ≡ false) more × IsDistinct (pointwise nat_eq) more
+unfolding IsDistinct
+distinct_parts key more d = (d.0, d.1)
 
 pub distinct_append : (held more : List (List ℕ)) → IsDistinct (pointwise nat_eq) held → IsDistinct (pointwise nat_eq) more → AllByRecursion (HasNoId held) more → IsDistinct (pointwise nat_eq) (held ++ more)
 unfolding IsDistinct

@@ -1,7 +1,8 @@
 -- Which series do records have, and which id has a series?
-use Rattle.std.specs.Prelude.{◌≡◌, ◌≢◌, ℕ, ◌+◌, ◌^◌, ◌≤◌, nat_eq, List, length, map, slice_get, Some}
-use Rattle.std.specs.List.{flat_map, AllByRecursion, IsDistinct}
+use Rattle.std.specs.Prelude.{◌≡◌, ◌≢◌, ℕ, ◌+◌, ◌^◌, ◌≤◌, nat_eq, List, [], ◌++◌, length, slice_get, Some}
+use Rattle.std.specs.List.{AllByRecursion, IsDistinct}
 use Rattle.std.specs.Cmp.Lexicographic.{pointwise}
+use Rattle.gate_log.specs.Following.{Grammar, Leads, plain_grammar}
 use Rattle.series_store.specs.Format.{HasRoom, IsWritable, record_bytes}
 
 -- the most series that a file may have
@@ -21,13 +22,21 @@ pub record IsList (series : List (List ℕ)) : Type 0 where
   pub distinct : IsDistinct (pointwise nat_eq) series
   pub few : length series ≤ most_series
 
+-- the series that a record holds stand behind those before it
+pub record Takes (before : List (List ℕ)) (body : List ℕ) (all : List (List ℕ)) : Type 0 where
+  pub more : List (List ℕ)
+  pub written : IsWritable more
+  pub are : body ≡ record_bytes more
+  pub behind : all ≡ before ++ more
+  pub sound : IsList all
+
+-- how the records of a series file are read
+abbrev pub series_grammar : Grammar (List (List ℕ))
+series_grammar = plain_grammar Takes
+
 -- the records hold these series, one list behind the other
-pub record Hold (records : List (List ℕ)) (series : List (List ℕ)) : Type 0 where
-  pub lists : List (List (List ℕ))
-  pub are : records ≡ map record_bytes lists
-  pub written : AllByRecursion IsWritable lists
-  pub all : series ≡ flat_map (λ list. list) lists
-  pub sound : IsList series
+abbrev pub Hold : List (List ℕ) → List (List ℕ) → Type 0
+Hold records series = Leads series_grammar [] records series
 
 -- Series that may be added to those held: each is new and stands once, and all have room in one record and in the file.
 pub record MayAdd (held more : List (List ℕ)) : Type 0 where

@@ -1,18 +1,19 @@
 // The series that are held.
-ghost use Rattle.std.specs.Prelude.{◌≡◌, ◌++◌, ◌∷◌, [], nat_eq, false, IsTrue, IfOk, OnOk, OnErr};
+ghost use Rattle.std.specs.Prelude.{◌≡◌, ◌+◌, ◌<◌, ◌≤◌, ◌++◌, ◌∷◌, [], length, nat_eq, false, IsTrue, IfOk};
 ghost use Rattle.std.specs.List.{list_any, AllByRecursion, IsDistinct};
 ghost use Rattle.std.specs.Cmp.Lexicographic.{pointwise};
+ghost use Rattle.indexmap.specs.IndexSet.{spare};
 ghost use Rattle.series_store.specs.Format.{IsKey};
 ghost use Rattle.series_store.specs.Lists.{HasNoId};
 
 use indexmap::IndexSet;
 use std::alloc::{AllocError, Global};
-use tsdb_types::SeriesKey;
+use tsdb_types::{Seed, SeriesKey};
 
 /// Holds the series of a text, where it is one that isn't held.
 pub fn hold_text(
     alloc: Global,
-    held: &mut IndexSet<SeriesKey>,
+    held: &mut IndexSet<SeriesKey, Seed>,
     text: &[u8],
 ) -> Result<bool, AllocError>
     ensures new { IfOk result (λ new. IsTrue new → IsKey text.now × (held.new.keys ≡ held.old.keys ++ text.now ∷ [])) }
@@ -31,29 +32,23 @@ pub fn hold_text(
     }
 }
 
-/// Holds series that aren't held, all or none.
-pub fn hold_all(held: &mut IndexSet<SeriesKey>, series: &[SeriesKey]) -> Result<(), AllocError>
-    requires fresh { AllByRecursion (HasNoId held.old.keys) series.now }
-    requires distinct { IsDistinct (pointwise nat_eq) series.now }
-    ensures ok { OnOk result (held.new.keys ≡ held.old.keys ++ series.now) }
-    ensures err { OnErr result (held.new.keys ≡ held.old.keys) }
+/// Holds series that aren't held, where there is room for them.
+pub fn hold_all(held: &mut IndexSet<SeriesKey, Seed>, series: Vec<SeriesKey>)
+    requires fresh { AllByRecursion (HasNoId held.old.keys) series.items }
+    requires distinct { IsDistinct (pointwise nat_eq) series.items }
+    requires room { length series.items ≤ spare held.old }
+    ensures { held.new.keys ≡ held.old.keys ++ series.items }
 {
-    let before = held.len();
     for key in series {
-        if let Err(none) = hold(held, key) {
-            held.truncate(before);
-            return Err(none);
-        }
+        hold(held, key);
     }
-    Ok(())
 }
 
-fn hold(held: &mut IndexSet<SeriesKey>, key: &SeriesKey) -> Result<(), AllocError>
-    requires { HasNoId held.old.keys key.now }
-    ensures ok { OnOk result (held.new.keys ≡ held.old.keys ++ key.now ∷ []) }
-    ensures err { OnErr result (held.new.keys ≡ held.old.keys) }
+fn hold(held: &mut IndexSet<SeriesKey, Seed>, key: SeriesKey)
+    requires fresh { HasNoId held.old.keys key }
+    requires room { 0 < spare held.old }
+    ensures keys { held.new.keys ≡ held.old.keys ++ key ∷ [] }
+    ensures room { spare held.old ≤ spare held.new + 1 }
 {
-    let copy = key.carry()?;
-    held.insert(copy)?;
-    Ok(())
+    let _ = held.insert(key);
 }

@@ -4,13 +4,12 @@
 
 mod held;
 mod laws;
+mod new_series;
 mod put;
 mod read;
 mod series;
 mod take;
 
 pub use laws::{one_file, records_hold};
+pub use new_series::NewSeries;
 pub use series::Series;
-
-#[cfg(test)]
-mod tests;

@@ -4,8 +4,8 @@ ghost use Rattle.std.specs.List.{flat_map, AllByRecursion, IsDistinct};
 ghost use Rattle.std.specs.Cmp.Lexicographic.{pointwise};
 ghost use Rattle.gate_log.specs.Damage.{bodies};
 ghost use Rattle.shard_disk.specs.declared.damage.Damage.{Damage};
-ghost use Rattle.series_store.specs.Format.{HasRoom, IsKey, IsWritable, record_bytes, series_bytes};
-ghost use Rattle.series_store.specs.Lists.{Hold, IsList, most_series};
+ghost use Rattle.series_store.specs.Format.{HasRoom, IsKey, series_bytes};
+ghost use Rattle.series_store.specs.Lists.{Hold, IsList, Takes, most_series};
 ghost use Rattle.series_store.specs.Reading.{MayNotFollow, StandsBehind};
 
 use crate::held::hold_text;
@@ -15,7 +15,7 @@ use gate_log::LogFault;
 use indexmap::IndexSet;
 use shard_disk::{Damage, Why};
 use std::alloc::{AllocError, Global};
-use tsdb_types::SeriesKey;
+use tsdb_types::{Seed, SeriesKey};
 
 /// The most series that a file may have.
 const MOST_SERIES: usize = 10_000_000;
@@ -23,14 +23,15 @@ const MOST_SERIES: usize = 10_000_000;
 /// The series of the records of a file.
 pub fn series_of(
     alloc: Global,
+    seed: Seed,
     no: u32,
     records: &[Vec<u8>],
-) -> Result<IndexSet<SeriesKey>, LogFault>
+) -> Result<IndexSet<SeriesKey, Seed>, LogFault>
     ensures found { IfOk result (λ held. Hold (bodies records.now) held.keys) }
     ensures strange { (damage : Damage) → result ≡ Err (LogFault.Damaged damage) → StandsBehind damage no (bodies records.now) }
     ensures no_fault { IsErrOf result LogFault.Fault → ⊥ }
 {
-    let mut held = IndexSet::new(alloc);
+    let mut held = IndexSet::with_hasher(alloc, seed);
     let mut gate = 0u64;
     for record in records {
         if !follow(alloc, &mut held, record)? {
@@ -50,10 +51,9 @@ pub fn series_of(
 }
 
 /// Holds the series of a record, where it may follow. Else which ones are held is open.
-fn follow(alloc: Global, held: &mut IndexSet<SeriesKey>, body: &[u8]) -> Result<bool, AllocError>
+fn follow(alloc: Global, held: &mut IndexSet<SeriesKey, Seed>, body: &[u8]) -> Result<bool, AllocError>
     requires { length held.old.keys ≤ most_series }
-    ensures follows { IfOk result (λ follows. IsTrue follows → (more : List (List ℕ)) × IsWritable more × (body.now ≡ record_bytes more) × (held.new.keys ≡ held.old.keys ++ more)) }
-    ensures sound { IfOk result (λ follows. IsTrue follows → IsList held.new.keys) }
+    ensures follows { IfOk result (λ follows. IsTrue follows → Takes held.old.keys body.now held.new.keys) }
     ensures none { IfOk result (λ follows. follows ≡ false → MayNotFollow held.old.keys body.now) }
 {
     if body.len() > 1 << 30 {
@@ -71,7 +71,7 @@ fn follow(alloc: Global, held: &mut IndexSet<SeriesKey>, body: &[u8]) -> Result<
 /// Holds so many series, of which these are the bytes and nothing else, where none is held.
 fn hold_each(
     alloc: Global,
-    held: &mut IndexSet<SeriesKey>,
+    held: &mut IndexSet<SeriesKey, Seed>,
     bytes: &[u8],
     count: u32,
 ) -> Result<bool, AllocError>

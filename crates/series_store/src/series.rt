@@ -1,61 +1,69 @@
-ghost use Rattle.std.specs.Prelude.{◌≡◌, ◌↔◌, ℕ, ◌∷◌, [], List, length, slice_get, option_copied, Option, Some, Err, IsTrue, IsOk, IfOk, IfNone, IsErrOf, OnOk, OnErr};
+ghost use Rattle.std.specs.Prelude.{◌≡◌, ◌↔◌, ◌≤◌, ◌++◌, ℕ, [], length, slice_get, option_copied, Some, Err, IsTrue, IfOk, IfNone, IsErrOf, OnOk, OnErr};
+ghost use Rattle.std.specs.List.{AllByRecursion};
 ghost use Rattle.shard_disk.specs.Crash.{Leaves, Same};
-ghost use Rattle.shard_disk.specs.Directory.{ChangesAt, Ends, HasFile, IsPresent};
-ghost use Rattle.shard_disk.specs.Health.{HasCause, Ages, Failed};
+ghost use Rattle.shard_disk.specs.Directory.{HasFile, IsPresent};
+ghost use Rattle.shard_disk.specs.Health.{Ages, Failed};
 ghost use Rattle.shard_disk.specs.declared.damage.Damage.{Damage};
-ghost use Rattle.gate_log.specs.Records.{WithAtMost};
 
+use crate::NewSeries;
 use crate::held::hold_all;
-use crate::put::record_of;
 use crate::read::series_of;
 use gate_log::{Log, LogFault};
 use indexmap::IndexSet;
 use shard_disk::{Disk, Trouble};
-use std::alloc::Global;
+use std::alloc::{AllocError, Global};
 use std::marker::Model;
-use tsdb_types::SeriesKey;
+use tsdb_types::{Seed, SeriesKey};
 
 /// The series of a directory. The id of a series is its place in the file, counted from 0 over all records.
 #[derive(Drop)]
 pub struct Series {
     alloc: Global,
-    keys: IndexSet<SeriesKey>,
+    keys: IndexSet<SeriesKey, Seed>,
     log: Log,
 }
 
 impl Model for Series {
+    ghost use Rattle.indexmap.specs.IndexSet.{spare};
     ghost use Rattle.series_store.specs.Calls.{Kept};
     ghost use Rattle.series_store.specs.Lists.{IsList};
 
     ghost Value = { Kept };
 
-    ghost view = { λ s. record { keys = s.keys.keys; log = s.log } };
+    ghost view = { λ s. record { keys = s.keys.keys; log = s.log; room = spare s.keys } };
 
     ghost invariant = { λ s. IsList s.keys.keys };
 }
 
 impl Series {
-    ghost use Rattle.gate_log.specs.Calls.Settle.{KeepsFile, Remains, Settles};
-    ghost use Rattle.gate_log.specs.Log.{HasGate, IsEmptyLog, IsInDoubt, IsPlaced, IsShutLog, Stands, doubtful, file_of};
-    ghost use Rattle.series_store.specs.Calls.{AddsNoSeries, AddsSeries, Finds, KeepsSeries};
-    ghost use Rattle.series_store.specs.Format.{record_bytes};
+    ghost use Rattle.gate_log.specs.Calls.Append.{Appends};
+    ghost use Rattle.gate_log.specs.Calls.Settle.{Settling};
+    ghost use Rattle.gate_log.specs.Log.{IsEmptyLog, IsInDoubt, IsPlaced, file_of};
+    ghost use Rattle.series_store.specs.Calls.{Finds};
+    ghost use Rattle.series_store.specs.Format.{IsKey, record_bytes};
     ghost use Rattle.series_store.specs.Lists.{HasId, HasNoId, IsList, MayAdd};
     ghost use Rattle.series_store.specs.Reading.{IsWrong};
 
-    /// No series yet, in a log without a record.
-    pub fn new(alloc: Global, log: Log) -> Series
+    /// No series yet, in a log without a record. The seed of the hashes is one that clients don't know: they choose the series.
+    pub fn new(alloc: Global, seed: Seed, log: Log) -> Series
         requires { IsEmptyLog log }
-        ensures { result ≡ record { keys = []; log = log } }
+        ensures keys { result.keys ≡ [] }
+        ensures log { result.log ≡ log }
     {
         Series {
             alloc,
-            keys: IndexSet::new(alloc),
+            keys: IndexSet::with_hasher(alloc, seed),
             log,
         }
     }
 
     /// The series of a file, which is made durable before it answers.
-    pub fn read<D: Disk>(alloc: Global, disk: &mut D, no: u32) -> Result<Series, LogFault>
+    pub fn read<D: Disk>(
+        alloc: Global,
+        seed: Seed,
+        disk: &mut D,
+        no: u32,
+    ) -> Result<Series, LogFault>
         requires { IsTrue D.tells → IsPresent (D.files disk.old) no }
 
         ensures found { IfOk result (λ found. Finds (IsTrue D.tells) no found (D.files disk.new) (D.crashes disk.old) (D.crashes disk.new)) }
@@ -68,7 +76,7 @@ impl Series {
         ensures ages { Ages (D.health disk.old) (D.health disk.new) }
     {
         let (log, records) = Log::read(alloc, disk, no)?;
-        let keys = series_of(alloc, no, &records)?;
+        let keys = series_of(alloc, seed, no, &records)?;
         Ok(Series { alloc, keys, log })
     }
 
@@ -104,59 +112,42 @@ impl Series {
         self.keys.get_index(id as usize)
     }
 
+    /// Makes series ready to be added: their record, and room for them. This is what takes memory of adding them.
+    pub fn prepare(&mut self, keys: &[SeriesKey]) -> Result<NewSeries, AllocError>
+        requires { MayAdd self.old.keys keys.now }
+        ensures ok { IfOk result (λ new. new ≡ keys.now) }
+        ensures room { OnOk result (length keys.now ≤ self.new.room) }
+        ensures same { self.new ≡ record self.old { room = self.new.room } }
+    {
+        let new = NewSeries::new(self.alloc, keys)?;
+        self.keys.reserve(keys.len())?;
+        Ok(new)
+    }
+
     /// Adds series, durably and all or none, as one record. They have the next ids, in their order. After a refusal none has
     /// an id. After a fault the record may be in the file or not, as `in_doubt` tells; `settle` takes it away, and so does the
-    /// next `add` before it adds anything.
-    pub fn add<D: Disk>(&mut self, disk: &mut D, keys: &[SeriesKey]) -> Result<(), Trouble>
-        requires may { MayAdd self.old.keys keys.now }
+    /// next `add` before it adds anything. It takes no memory.
+    pub fn add<D: Disk>(&mut self, disk: &mut D, new: NewSeries) -> Result<(), Trouble>
+        requires may { MayAdd self.old.keys new }
+        requires room { length new ≤ self.old.room }
         requires placed { IsTrue D.tells → IsPlaced (D.files disk.old) self.old.log }
 
-        ensures ok { OnOk result (AddsSeries (IsTrue D.tells) keys.now self.old self.new
-            (D.files disk.old) (D.files disk.new) (D.crashes disk.old) (D.crashes disk.new)) }
-        ensures refused { OnErr result (AddsNoSeries (IsTrue D.tells) (IsErrOf result Trouble.Fault) keys.now self.old self.new
-            (D.files disk.old) (D.files disk.new) (D.crashes disk.old) (D.crashes disk.new)) }
-
-        // A crash at any moment of the call leaves the records, with at most this one or the one in doubt.
-        ensures crash { IsTrue D.tells → HasGate self.old.log → (records : List (List ℕ)) (doubt : Option (List ℕ))
-            → Stands (D.files disk.old) (D.crashes disk.old) self.old.log records doubt
-            → Leaves (ChangesAt (file_of self.old.log) (Ends (WithAtMost records (record_bytes keys.now ∷ doubtful doubt)))) (D.crashes disk.old) (D.crashes disk.new) }
-
-        ensures placed { IsTrue D.tells → IsPlaced (D.files disk.new) self.new.log }
-        ensures kept { KeepsFile (IsTrue D.tells) self.old.log self.new.log (D.files disk.old) (D.files disk.new) }
-        ensures handed_out { D.handed_out disk.new ≡ D.handed_out disk.old }
-        ensures ages { Ages (D.health disk.old) (D.health disk.new) }
-        ensures fault { IsErrOf result Trouble.Fault → Failed (D.health disk.old) (D.health disk.new) }
+        ensures log { Appends D.Disk (record_bytes new) self.old.log self.new.log disk.old disk.new result }
+        ensures ok { OnOk result (self.new.keys ≡ self.old.keys ++ new) }
+        ensures refused { OnErr result (self.new.keys ≡ self.old.keys) }
+        ensures each { AllByRecursion IsKey new }
     {
-        let body = record_of(self.alloc, keys)?;
-        let before = self.keys.len();
-        hold_all(&mut self.keys, keys)?;
-        match self.log.append(self.alloc, disk, &body) {
-            Ok(()) => Ok(()),
-            Err(trouble) => {
-                self.keys.truncate(before);
-                Err(trouble)
-            }
-        }
+        self.log.append(disk, new.frame())?;
+        hold_all(&mut self.keys, new.into_keys());
+        Ok(())
     }
 
     /// Ends the doubt about a record, so that its series aren't there whatever crash comes, and closes a missing gate. Else
     /// it does nothing.
     pub fn settle<D: Disk>(&mut self, disk: &mut D) -> Result<(), Trouble>
         requires { IsTrue D.tells → IsPlaced (D.files disk.old) self.old.log }
-
-        ensures ok { OnOk result (Settles (IsTrue D.tells) self.old.log self.new.log
-            (D.files disk.old) (D.files disk.new) (D.crashes disk.old) (D.crashes disk.new)) }
-        ensures refused { OnErr result (Remains (IsTrue D.tells) self.old.log self.new.log
-            (D.files disk.old) (D.files disk.new) (D.crashes disk.old) (D.crashes disk.new)) }
-        ensures crash { IsTrue D.tells → HasGate self.old.log → (records : List (List ℕ)) (doubt : Option (List ℕ))
-            → Stands (D.files disk.old) (D.crashes disk.old) self.old.log records doubt
-            → Leaves (ChangesAt (file_of self.old.log) (Ends (WithAtMost records (doubtful doubt)))) (D.crashes disk.old) (D.crashes disk.new) }
-        ensures idle { IsShutLog self.old.log → (IsOk result) × (self.new ≡ self.old) × (disk.new ≡ disk.old) }
-
-        ensures placed { IsTrue D.tells → IsPlaced (D.files disk.new) self.new.log }
-        ensures kept { KeepsSeries (IsTrue D.tells) self.old self.new (D.files disk.old) (D.files disk.new) }
-        ensures handed_out { D.handed_out disk.new ≡ D.handed_out disk.old }
-        ensures fault { HasCause result (D.health disk.old) (D.health disk.new) }
+        ensures log { Settling D.Disk self.old.log self.new.log disk.old disk.new result }
+        ensures same { self.new ≡ record self.old { log = self.new.log } }
     {
         self.log.settle(disk)
     }

@@ -66,6 +66,7 @@ opened client is_held old new faults steady = record {
   later = omega (arith, faults);
   fault = λ is. cc;
   memory = λ is. cc;
+  ok = λ is. faults;
   steady = λ is held. (steady is, λ fault. cc);
 }
 
@@ -75,6 +76,7 @@ not_held is_held old new later rose none = record {
   later = later;
   fault = λ is. rose;
   memory = λ is. cc;
+  ok = λ is. cc;
   steady = λ is held. absurd (none held);
 }
 

@@ -1,5 +1,5 @@
 -- What does a desk know of its clients?
-use Rattle.std.specs.Prelude.{◌≡◌, ℕ, ◌≤◌, ℤ, Bool, false, ◌&&◌, IsTrue, List, [], ◌∷◌, ◌++◌, All, Any, Option, Some, None, IfSome, ⊤, Result, IsErrOf}
+use Rattle.std.specs.Prelude.{◌≡◌, ℕ, ◌≤◌, ℤ, Bool, false, ◌&&◌, IsTrue, List, [], ◌∷◌, ◌++◌, All, Any, Option, Some, None, IfSome, ⊤, Result, IsOk, IsErrOf}
 use Rattle.shard_disk.specs.Health.{Health, Rose}
 use Rattle.shard_disk.specs.declared.trouble.Trouble.{Trouble}
 use Rattle.shard_disk.specs.declared.trouble.Trouble.TheVariants as trouble
@@ -77,4 +77,5 @@ pub record OpeningHasCause {T : Type 0} (result : Result T Trouble) (is_held : T
   pub later : old.faults ≤ new.faults
   pub fault : IsErrOf result trouble.Fault → Rose old.faults new.faults
   pub memory : IsErrOf result trouble.Memory → new ≡ old
+  pub ok : IsOk result → new.faults ≡ old.faults
   pub steady : IsTrue old.is_steady → is_held → (new ≡ old) × ¬ (IsErrOf result trouble.Fault)

@@ -1,5 +1,8 @@
 -- What does a read, a write or a look at the clock add to what an object tells of itself?
-use Rattle.std.specs.Prelude.{◌≡◌, ℕ, ◌<◌, ◌≤◌, Bool, false, ◌&&◌, nat_lt, ◌==◌, List, [], ◌++◌, length, take, Option, Some, None, ⊤, Result, Ok, Err, IfOk, IfSome}
+use Rattle.std.specs.Prelude.{◌≡◌, ℕ, ◌<◌, ◌≤◌, Bool, false, ◌&&◌, nat_lt, ◌==◌, List, [], ◌++◌, length, take, Option, Some, None, ⊤, Result, Ok, Err, IfOk, IfSome, IsErrOf}
+use Rattle.shard_disk.specs.Health.{Rose}
+use Rattle.shard_disk.specs.declared.trouble.Trouble.{Trouble}
+use Rattle.shard_disk.specs.declared.trouble.Trouble.TheVariants as trouble
 
 -- What is told grows by these at its end. An object may stop telling, and one that doesn't tell never will.
 abbrev pub Grows : {X : Type 0} → Option (List X) → Option (List X) → List X → Type 0
@@ -31,3 +34,8 @@ tells_end (Err e) buffer = false
 pub record SpendsReads {E : Type 0} (before now : ℕ) (result : Result ℕ E) : Type 0 where
   pub never_rises : now ≤ before
   pub falls : IfOk result (λ count. 0 < count → now < before)
+
+-- Want of memory is counted, and nothing else is.
+pub record CountsWants {T : Type 0} (result : Result T Trouble) (before now : ℕ) : Type 0 where
+  pub memory : IsErrOf result trouble.Memory → Rose before now
+  pub other : ¬ (IsErrOf result trouble.Memory) → now ≡ before

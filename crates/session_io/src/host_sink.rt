@@ -27,6 +27,9 @@ impl<W: Write + Send> Sink for HostSink<W> {
     // What the system will do isn't known.
     ghost health = { λ s. record { faults = s.faults; is_steady = false } };
 
+    // A refusal of the system counts as a fault.
+    ghost wants = { λ _. 0 };
+
     fn write(&mut self, bytes: &[u8]) -> Result<usize, Trouble> {
         if let Ok(count) = self.inner.write(bytes)
             && (count > 0 || bytes.is_empty())

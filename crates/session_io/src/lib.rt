@@ -34,6 +34,3 @@ pub use mem_source::MemSource;
 pub use report::{End, Report};
 pub use sink::Sink;
 pub use source::Source;
-
-#[cfg(test)]
-mod tests;

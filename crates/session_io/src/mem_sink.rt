@@ -11,17 +11,20 @@ use std::alloc::Global;
 pub struct MemSink {
     bytes: Vec<u8>,
     failures: Failures,
+    wants: u64,
 }
 
 impl MemSink {
     /// An empty sink. The writes at the places of `failing` fail, counted from 0.
     pub fn new(alloc: Global, failing: Vec<u64>) -> Self
         ensures written { ⟦<MemSink as Sink>⟧.written result ≡ Some [] }
+        ensures wants { ⟦<MemSink as Sink>⟧.wants result ≡ 0 }
         ensures health { ⟦<MemSink as Sink>⟧.health result ≡ record { faults = 0; is_steady = none_to_come failing.items 0 } }
     {
         MemSink {
             bytes: Vec::new(alloc),
             failures: Failures::new(failing),
+            wants: 0,
         }
     }
 
@@ -38,13 +41,18 @@ impl Sink for MemSink {
 
     ghost health = { λ s. s.failures };
 
+    ghost wants = { λ s. s.wants };
+
     fn write(&mut self, bytes: &[u8]) -> Result<usize, Trouble> {
         if self.failures.next_fails() {
             return Err(Trouble::Fault);
         }
         match self.bytes.extend_from_slice(bytes) {
             Ok(()) => Ok(bytes.len()),
-            Err(_) => Err(Trouble::Memory),
+            Err(_) => {
+                self.wants = self.wants.saturating_add(1);
+                Err(Trouble::Memory)
+            }
         }
     }
 }

@@ -27,7 +27,7 @@ entry_at [] more entry = refl
 entry_at (e ∷ done) more entry = entry_at done more entry
 
 -- a reply without an entry, or an entry with its number
-Cases : ℕ → Reply → Option Entry → Type 0
+unfoldable pub Cases : ℕ → Reply → Option Entry → Type 0
 Cases number reply entry = ((entry ≡ None) × (accepted reply ≡ []))
     ⊎ ((made : Entry) × (entry ≡ Some made) × (accepted reply ≡ (number + 1) ∷ []))
 
@@ -57,11 +57,11 @@ serve_cases points number client (statement.After wanted) = inl (refl, after_cas
 serve_cases points number client (statement.Refused refusal) = inl (refl, refl)
 serve_cases points number client statement.NotBuilt = inl (refl, refl)
 
-serves_cases : (state : State) (client : ℕ) (answer : Answer) (entry : Option Entry) → Serves state client answer entry → Cases state.number answer.reply entry
-serves_cases state client answer entry serves =
+pub serves_cases : (tells : Bool) (state : State) (client : ℕ) (answer : Answer) (entry : Option Entry) → Serves tells state client answer entry → Cases state.number answer.reply entry
+serves_cases tells state client answer entry serves =
     subst (λ (r : Reply). Cases state.number r entry) (sym serves.reply)
-    (subst (λ (e : Option Entry). Cases state.number (serve state.points state.number client serves.asks).reply e) (sym serves.entry_made)
-    (serve_cases state.points state.number client serves.asks))
+    (subst (λ (e : Option Entry). Cases state.number (serve serves.points state.number client serves.asks).reply e) (sym serves.entry_made)
+    (serve_cases serves.points state.number client serves.asks))
 
 -- an answer that is none of the machine's tells no entry
 pub none_accepted : (reply : Reply) → IsOfStore reply → accepted reply ≡ []
@@ -84,18 +84,18 @@ module _ (HasCause : List Entry → Answer → Type 0) (client : ℕ) (start : S
   record Places (done : List Entry) (answers : List Answer) (final : State) : Type 0 where
     more : List Entry
     ends : final ≡ state_after start (done ++ more)
-    placed : TakePlaces HasCause start (done ++ more) client (length done) answers
+    placed : TakePlaces true HasCause start (done ++ more) client (length done) answers
     told : flat_map (λ answer. accepted answer.reply) answers ≡ numbers_from (start.number + length done + 1) more
 
   -- what the machine gives at the end of a history is given at that place of each longer one
-  given_at : (done more : List Entry) (a : Answer) (entry : Option Entry) → Serves (state_after start done) client a entry
-      → IfSome entry (λ made. slice_get (done ++ more) (length done) ≡ Some made) → IsGivenAt HasCause start (done ++ more) client a (length done)
+  given_at : (done more : List Entry) (a : Answer) (entry : Option Entry) → Serves true (state_after start done) client a entry
+      → IfSome entry (λ made. slice_get (done ++ more) (length done) ≡ Some made) → IsGivenAt true HasCause start (done ++ more) client a (length done)
   given_at done more a entry serves stands = (
     let sum = length-append done more in omega arith,
-    inr (entry, subst (λ (h : List Entry). Serves (state_after start h) client a entry) (sym (take-append_seam done more)) serves, stands),
+    inr (entry, subst (λ (h : List Entry). Serves true (state_after start h) client a entry) (sym (take-append_seam done more)) serves, stands),
   )
 
-  aside_at : (done more : List Entry) (a : Answer) → IsAside (HasCause done) (state_after start done) a → IsGivenAt HasCause start (done ++ more) client a (length done)
+  aside_at : (done more : List Entry) (a : Answer) → IsAside (HasCause done) (state_after start done) a → IsGivenAt true HasCause start (done ++ more) client a (length done)
   aside_at done more a aside = (
     let sum = length-append done more in omega arith,
     inl (subst (λ (h : List Entry). IsAside (HasCause h) (state_after start h) a) (sym (take-append_seam done more)) aside),
@@ -103,7 +103,7 @@ module _ (HasCause : List Entry → Answer → Type 0) (client : ℕ) (start : S
 
   -- an answer without an entry
   keeps_place : (done : List Entry) (a : Answer) (others : List Answer) (final : State)
-      → ((more : List Entry) → IsGivenAt HasCause start (done ++ more) client a (length done)) → accepted a.reply ≡ []
+      → ((more : List Entry) → IsGivenAt true HasCause start (done ++ more) client a (length done)) → accepted a.reply ≡ []
       → Places done others final → Places done (a ∷ others) final
   keeps_place done a others final given none places = record {
     more = places.more;
@@ -112,7 +112,7 @@ module _ (HasCause : List Entry → Answer → Type 0) (client : ℕ) (start : S
       length done,
       omega arith,
       given places.more,
-      subst (λ (n : ℕ). TakePlaces HasCause start (done ++ places.more) client n others)
+      subst (λ (n : ℕ). TakePlaces true HasCause start (done ++ places.more) client n others)
           (let e = ap length none in omega arith) places.placed,
     );
     told = ap (λ (l : List ℕ). l ++ flat_map (λ answer. accepted answer.reply) others) none ∙ places.told;
@@ -120,7 +120,7 @@ module _ (HasCause : List Entry → Answer → Type 0) (client : ℕ) (start : S
 
   -- an answer with an entry
   takes_place : (done : List Entry) (entry : Entry) (a : Answer) (others : List Answer) (final : State)
-      → ((more : List Entry) → IsGivenAt HasCause start (done ++ entry ∷ more) client a (length done)) → accepted a.reply ≡ (start.number + length done + 1) ∷ []
+      → ((more : List Entry) → IsGivenAt true HasCause start (done ++ entry ∷ more) client a (length done)) → accepted a.reply ≡ (start.number + length done + 1) ∷ []
       → Places (done ++ entry ∷ []) others final → Places done (a ∷ others) final
   takes_place done entry a others final given one places =
       let longer : length (done ++ entry ∷ []) ≡ length done + 1 = let sum = length-append done (entry ∷ []) in omega arith in
@@ -131,8 +131,8 @@ module _ (HasCause : List Entry → Answer → Type 0) (client : ℕ) (start : S
           length done,
           omega arith,
           given places.more,
-          subst (λ (h : List Entry). TakePlaces HasCause start h client (length done + length (accepted a.reply)) others) (append_assoc done (entry ∷ []) places.more)
-              (subst (λ (n : ℕ). TakePlaces HasCause start ((done ++ entry ∷ []) ++ places.more) client n others)
+          subst (λ (h : List Entry). TakePlaces true HasCause start h client (length done + length (accepted a.reply)) others) (append_assoc done (entry ∷ []) places.more)
+              (subst (λ (n : ℕ). TakePlaces true HasCause start ((done ++ entry ∷ []) ++ places.more) client n others)
               (let e = ap length one in omega arith) places.placed),
         );
         told = ap (λ (l : List ℕ). l ++ flat_map (λ answer. accepted answer.reply) others) one
@@ -155,7 +155,7 @@ module _ (client : ℕ) (start : State) where
       (λ more. aside_at Caused client start done more a aside) (none_accepted a.reply aside.aside)
       (rest done (subst (λ (s : State). Run client s others final) same run))
   step_places done a others mid final rest (inr (entry, serves, new)) run =
-      elim (serves_cases (state_after start done) client a entry serves) [
+      elim (serves_cases true (state_after start done) client a entry serves) [
         | inl (none, quiet) ↦
             keeps_place Caused client start done a others final
             (λ more. given_at Caused client start done more a entry serves (subst (λ (e : Option Entry). IfSome e (λ made. slice_get (done ++ more) (length done) ≡ Some made)) (sym none) tt))

@@ -97,15 +97,15 @@ record IsMeant (a : Answer) : Type 0 where
 abbrev Meant : Answer → Type 0
 Meant a = IsOfStore a.reply ⊎ IsMeant a
 
-given_meant : (start : State) (history : List Entry) (client : ℕ) (a : Answer) (place : ℕ) → IsGivenAt AnyCause start history client a place → Meant a
-given_meant start history client a place (within, inl aside) = inl aside.aside
-given_meant start history client a place (within, inr (entry, serves, stands)) =
-    inr (record { asks = serves.asks; means = serves.means; points = _; number = _; client = client; reply = serves.reply })
+given_meant : (tells : Bool) (start : State) (history : List Entry) (client : ℕ) (a : Answer) (place : ℕ) → IsGivenAt tells AnyCause start history client a place → Meant a
+given_meant tells start history client a place (within, inl aside) = inl aside.aside
+given_meant tells start history client a place (within, inr (entry, serves, stands)) =
+    inr (record { asks = serves.asks; means = serves.means; points = serves.points; number = _; client = client; reply = serves.reply })
 
-places_meant : (start : State) (history : List Entry) (client least : ℕ) (answers : List Answer) → TakePlaces AnyCause start history client least answers → All Meant answers
-places_meant start history client least [] h = All-nil Meant
-places_meant start history client least (a ∷ answers) h =
-    All-cons Meant a answers (given_meant start history client a h.0 h.2) (places_meant start history client (h.0 + length (accepted a.reply)) answers h.3)
+places_meant : (tells : Bool) (start : State) (history : List Entry) (client least : ℕ) (answers : List Answer) → TakePlaces tells AnyCause start history client least answers → All Meant answers
+places_meant tells start history client least [] h = All-nil Meant
+places_meant tells start history client least (a ∷ answers) h =
+    All-cons Meant a answers (given_meant tells start history client a h.0 h.2) (places_meant tells start history client (h.0 + length (accepted a.reply)) answers h.3)
 
 no_reached_room : (room : Bool) (number client n : ℕ) (points : List Point) →
     (let served : Served = if room then record { reply = Accepted (number + 1); entry = Some (Write_entry client points) } else record { reply = HistoryFull; entry = None } in
@@ -256,16 +256,16 @@ module _ (one : RequestsMeanOne) where
   as_many_whole end ended bytes xs ys (Some c) None part other_part asks other_asks times first second meant other front further same =
       absurd (no_mix end ended bytes ys xs c other_part part other_asks asks (sym times) second first other meant further front (sym same))
 
-  pub explanations_one : (start other : State) (history further_history : List Entry) (client further_client place further_place : ℕ)
+  pub explanations_one : (tells : Bool) (start other : State) (history further_history : List Entry) (client further_client place further_place : ℕ)
       (transcript : Transcript) (dialogue further : Dialogue)
-      (first : IsTold AnyCause start history client transcript dialogue place)
-      (second : IsTold AnyCause other further_history further_client transcript further further_place)
+      (first : IsTold tells AnyCause start history client transcript dialogue place)
+      (second : IsTold tells AnyCause other further_history further_client transcript further further_place)
       → (map (λ answer. answer.reply) dialogue.answers ≡ map (λ answer. answer.reply) further.answers) × (first.records.part ≡ second.records.part)
-  explanations_one start other history further_history client further_client place further_place transcript dialogue further first second =
+  explanations_one tells start other history further_history client further_client place further_place transcript dialogue further first second =
       counted_one (start.number + place) (other.number + further_place) transcript dialogue further first.records second.records
       (as_many_whole transcript.report.end transcript.ended transcript.read dialogue.answers further.answers dialogue.cut further.cut
       first.records.part second.records.part first.records.asked second.records.asked (sym first.records.moments ∙ second.records.moments)
       first.records.readable second.records.readable
-      (places_meant start history client place (all_answers dialogue) first.places)
-      (places_meant other further_history further_client further_place (all_answers further) second.places)
+      (places_meant tells start history client place (all_answers dialogue) first.places)
+      (places_meant tells other further_history further_client further_place (all_answers further) second.places)
       first.records.cut_short second.records.cut_short (sym first.records.written ∙ second.records.written))

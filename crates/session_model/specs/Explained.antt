@@ -21,21 +21,21 @@ pub record Transcript : Type 0 where
   pub written : List ℕ
   pub report : Report
 
--- in the state behind so many entries of the history the answer is the machine's, and its entry is the history's
--- next; or the answer is none of the machine's, and has its cause there
-abbrev pub IsGivenAt : (List Entry → Answer → Type 0) → State → List Entry → ℕ → Answer → ℕ → Type 0
-IsGivenAt HasCause start history client answer place = (place ≤ length history)
+-- In the state behind so many entries of the history the answer is the machine's, and its entry is the history's
+-- next; or the answer is none of the machine's, and has its cause there. The points of the state may be told, or not.
+abbrev pub IsGivenAt : Bool → (List Entry → Answer → Type 0) → State → List Entry → ℕ → Answer → ℕ → Type 0
+IsGivenAt tells HasCause start history client answer place = (place ≤ length history)
     × (IsAside (HasCause (take place history)) (state_after start (take place history)) answer
-    ⊎ ((entry : Option Entry) × Serves (state_after start (take place history)) client answer entry
+    ⊎ ((entry : Option Entry) × Serves tells (state_after start (take place history)) client answer entry
     × IfSome entry (λ made. slice_get history place ≡ Some made)))
 
 -- The answers take places in the history that never fall, and each is behind the entries that the client was told
 -- before were accepted.
-abbrev pub TakePlaces : (List Entry → Answer → Type 0) → State → List Entry → ℕ → ℕ → List Answer → Type 0
-TakePlaces HasCause start history client least [] = Unit {0}
-TakePlaces HasCause start history client least (answer ∷ answers) = (place : ℕ) × (least ≤ place)
-    × IsGivenAt HasCause start history client answer place
-    × TakePlaces HasCause start history client (place + length (accepted answer.reply)) answers
+abbrev pub TakePlaces : Bool → (List Entry → Answer → Type 0) → State → List Entry → ℕ → ℕ → List Answer → Type 0
+TakePlaces tells HasCause start history client least [] = Unit {0}
+TakePlaces tells HasCause start history client least (answer ∷ answers) = (place : ℕ) × (least ≤ place)
+    × IsGivenAt tells HasCause start history client answer place
+    × TakePlaces tells HasCause start history client (place + length (accepted answer.reply)) answers
 
 -- the part is a proper front of the reply, or there is no further reply and no part
 abbrev pub IsCutShort : List ℕ → Option Answer → Type 0
@@ -84,20 +84,20 @@ abbrev pub own_numbers : Dialogue → List ℕ
 own_numbers dialogue = flat_map (λ answer. accepted answer.reply) (all_answers dialogue)
 
 -- the client was opened at this place of the history, and its answers take their places behind it
-pub record IsTold (HasCause : List Entry → Answer → Type 0) (start : State) (history : List Entry) (client : ℕ) (transcript : Transcript) (dialogue : Dialogue) (place : ℕ) : Type 0 where
+pub record IsTold (tells : Bool) (HasCause : List Entry → Answer → Type 0) (start : State) (history : List Entry) (client : ℕ) (transcript : Transcript) (dialogue : Dialogue) (place : ℕ) : Type 0 where
   pub within : place ≤ length history
   pub records : Records (start.number + place) transcript dialogue
-  pub places : TakePlaces HasCause start history client place (all_answers dialogue)
+  pub places : TakePlaces tells HasCause start history client place (all_answers dialogue)
 
 -- the transcripts are those of the dialogues, one by one, and each dialogue takes its places in the history; the
 -- clients are numbered from this one on
-abbrev pub AreToldFrom : (List Entry → Answer → Type 0) → State → List Entry → ℕ → List Transcript → List Dialogue → Type 0
-AreToldFrom HasCause start history client [] [] = Unit {0}
-AreToldFrom HasCause start history client (transcript ∷ transcripts) (dialogue ∷ dialogues) =
-    (place : ℕ) × IsTold HasCause start history client transcript dialogue place
-    × AreToldFrom HasCause start history (client + 1) transcripts dialogues
-AreToldFrom HasCause start history client [] (dialogue ∷ dialogues) = ⊥
-AreToldFrom HasCause start history client (transcript ∷ transcripts) [] = ⊥
+abbrev pub AreToldFrom : Bool → (List Entry → Answer → Type 0) → State → List Entry → ℕ → List Transcript → List Dialogue → Type 0
+AreToldFrom tells HasCause start history client [] [] = Unit {0}
+AreToldFrom tells HasCause start history client (transcript ∷ transcripts) (dialogue ∷ dialogues) =
+    (place : ℕ) × IsTold tells HasCause start history client transcript dialogue place
+    × AreToldFrom tells HasCause start history (client + 1) transcripts dialogues
+AreToldFrom tells HasCause start history client [] (dialogue ∷ dialogues) = ⊥
+AreToldFrom tells HasCause start history client (transcript ∷ transcripts) [] = ⊥
 
 -- the numbers of the entries, from this one on
 abbrev pub numbers_from : ℕ → List Entry → List ℕ
@@ -106,11 +106,11 @@ numbers_from number (entry ∷ entries) = number ∷ numbers_from (number + 1) e
 
 -- Each reply is the machine's at a place of the history, in an order that its client saw, or has its cause; and each
 -- entry's number was told once, in a reply or in one that was cut short.
-pub record ExplainedBut (HasCause : List Entry → Answer → Type 0) (start : State) (history : List Entry) (transcripts : List Transcript) : Type 0 where
+pub record ExplainedBut (tells : Bool) (HasCause : List Entry → Answer → Type 0) (start : State) (history : List Entry) (transcripts : List Transcript) : Type 0 where
   pub dialogues : List Dialogue
-  pub told : AreToldFrom HasCause start history 0 transcripts dialogues
+  pub told : AreToldFrom tells HasCause start history 0 transcripts dialogues
   pub each_once : IsPermutation (flat_map own_numbers dialogues) (numbers_from (start.number + 1) history)
 
 -- each reply is the machine's, but for those that want memory
 abbrev pub Explained : State → List Entry → List Transcript → Type 0
-Explained start history transcripts = ExplainedBut (λ before. IsOutOfMemory) start history transcripts
+Explained start history transcripts = ExplainedBut true (λ before. IsOutOfMemory) start history transcripts

@@ -1,5 +1,5 @@
 -- Which laws do sessions keep?
-use Rattle.std.specs.Prelude.{◌≡◌, ℕ, ◌-◌, ◌^◌, ◌<◌, ℤ, List, [], ◌∷◌, map, All}
+use Rattle.std.specs.Prelude.{◌≡◌, ℕ, ◌-◌, ◌^◌, ◌<◌, ℤ, Bool, List, [], ◌∷◌, map, All}
 use Rattle.std.specs.List.{flat_map}
 use Rattle.point_model.specs.declared.entry.Entry.{Entry}
 use Rattle.point_model.specs.Histories.{State, state_after}
@@ -22,6 +22,12 @@ RunsAreExplained = (start final : State) (transcript : Transcript) (dialogue : D
     → Records start.number transcript dialogue → Run 0 start (all_answers dialogue) final
     → (history : List Entry) × Explained start history (transcript ∷ []) × (final ≡ state_after start history)
 
+-- Where a history explains the transcript of one client, that client was answered by the machine, one request after another, in a
+-- run that makes this history.
+abbrev pub ExplainedAreRuns : Type 0
+ExplainedAreRuns = (start : State) (history : List Entry) (transcript : Transcript) → Explained start history (transcript ∷ [])
+    → (dialogue : Dialogue) × Records start.number transcript dialogue × Run 0 start (all_answers dialogue) (state_after start history)
+
 -- whatever the cause of an answer that is none of the machine's
 abbrev pub AnyCause : List Entry → Answer → Type 0
 AnyCause history answer = Unit {0}
@@ -35,8 +41,8 @@ pub record RepliesAreReadBack : Type 0 where
       (first : Records opening transcript dialogue) (second : Records other transcript further)
       → transcript.report.requests < 2 ^ 64 - 1
       → (map (λ answer. answer.reply) dialogue.answers ≡ map (λ answer. answer.reply) further.answers) × (first.part ≡ second.part)
-  pub explanations : (start other : State) (history further_history : List Entry) (client further_client place further_place : ℕ)
+  pub explanations : (tells : Bool) (start other : State) (history further_history : List Entry) (client further_client place further_place : ℕ)
       (transcript : Transcript) (dialogue further : Dialogue)
-      (first : IsTold AnyCause start history client transcript dialogue place)
-      (second : IsTold AnyCause other further_history further_client transcript further further_place)
+      (first : IsTold tells AnyCause start history client transcript dialogue place)
+      (second : IsTold tells AnyCause other further_history further_client transcript further further_place)
       → (map (λ answer. answer.reply) dialogue.answers ≡ map (λ answer. answer.reply) further.answers) × (first.records.part ≡ second.records.part)

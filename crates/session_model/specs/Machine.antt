@@ -1,5 +1,5 @@
 -- What does the machine of one thread reply to a request, and which entry does it make?
-use Rattle.std.specs.Prelude.{◌≡◌, ◌⊎◌, ℕ, ◌+◌, ℤ, nat_lt, nat_le, List, [], ◌∷◌, map, Option, Some, None, if◌then◌else◌}
+use Rattle.std.specs.Prelude.{◌≡◌, ◌⊎◌, ℕ, ◌+◌, ℤ, Bool, true, IsTrue, nat_lt, nat_le, List, [], ◌∷◌, map, Option, Some, None, if◌then◌else◌}
 use Rattle.tsdb_types.specs.declared.point.Point.{Point}
 use Rattle.point_model.specs.Points.{Points}
 use Rattle.point_model.specs.declared.entry.Entry.{Entry}
@@ -51,13 +51,16 @@ pub record Answer : Type 0 where
   pub reply : Reply
   pub number : Option ℕ
 
--- the answer is the machine's to a client in this state, and makes this entry or none
-pub record Serves (state : State) (client : ℕ) (answer : Answer) (entry : Option Entry) : Type 0 where
+-- The answer is the machine's to a client in this state, and makes this entry or none. Where the points aren't told, it is
+-- the machine's at the state's number and some points: only the rows of a SELECT, and which kind a conflict names, are left open.
+pub record Serves (tells : Bool) (state : State) (client : ℕ) (answer : Answer) (entry : Option Entry) : Type 0 where
   pub asks : Statement
   pub means : Means answer.request answer.moment asks
-  pub reply : answer.reply ≡ (serve state.points state.number client asks).reply
+  pub points : Points
+  pub are_told : IsTrue tells → points ≡ state.points
+  pub reply : answer.reply ≡ (serve points state.number client asks).reply
   pub number : answer.number ≡ named answer.reply
-  pub entry_made : entry ≡ (serve state.points state.number client asks).entry
+  pub entry_made : entry ≡ (serve points state.number client asks).entry
 
 -- the replies that are none of the machine's
 abbrev pub IsOfStore : Reply → Type 0
@@ -93,7 +96,7 @@ with_entry state (Some entry) = record { points = after_entry state.points entry
 -- the client is given this answer, which leads from one state to the other
 abbrev pub Step : ℕ → State → Answer → State → Type 0
 Step client old answer new = (IsAside IsOutOfMemory old answer × (new ≡ old))
-    ⊎ ((entry : Option Entry) × Serves old client answer entry × (new ≡ with_entry old entry))
+    ⊎ ((entry : Option Entry) × Serves true old client answer entry × (new ≡ with_entry old entry))
 
 -- the client is given these answers, one after another
 abbrev pub Run : ℕ → State → List Answer → State → Type 0

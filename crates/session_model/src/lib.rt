@@ -4,7 +4,7 @@
 
 mod statement;
 
-ghost use Rattle.session_model.specs.Laws.{RepliesAreReadBack, RequestsMeanOne, RunsAreExplained};
+ghost use Rattle.session_model.specs.Laws.{ExplainedAreRuns, RepliesAreReadBack, RequestsMeanOne, RunsAreExplained};
 
 pub use statement::{Refusal, Statement};
 
@@ -18,6 +18,11 @@ pub fn requests_mean_one()
 /// What a client is answered by the machine, one request after another, has a history that explains it.
 pub fn runs_are_explained()
     ensures { RunsAreExplained }
+{}
+
+/// A history that explains what one client was told is that of a run of the machine.
+pub fn explained_are_runs()
+    ensures { ExplainedAreRuns }
 {}
 
 /// No two lists of replies have one text, so a transcript tells its replies.

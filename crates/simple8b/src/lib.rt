@@ -9,8 +9,6 @@ mod fault;
 mod first;
 mod law;
 mod selector;
-#[cfg(test)]
-mod tests;
 
 pub use counts::count;
 pub use decoder::decode;

@@ -11,9 +11,9 @@ use Rattle.point_model.specs.declared.entry.Entry.TheVariants.{Write}
 use Rattle.point_model.specs.Points.{Points, no_points, cell_cmp}
 use Rattle.point_model.proofs.HistoryLemmas.{after-append}
 use Rattle.store_trait.specs.Slots.{Slots, Samples}
-use Rattle.store_trait.specs.Told.{Told, Keeps, state_now, last_number}
+use Rattle.store_trait.specs.Told.{Told, Keeps, state_now, last_number, numbers_from}
 use Rattle.store_trait.specs.Calls.Write.{Accepts}
-use Rattle.store_trait.specs.Plain.{Fits, Agrees, Holds, IsIn, IsSampled, entries_of, numbers_from, told_of}
+use Rattle.store_trait.specs.Plain.{Fits, Agrees, Holds, IsIn, IsSampled, entries_of, told_of}
 use Rattle.point_model.proofs.PointLemmas.{sorted-after}
 use Rattle.store_trait.proofs.CommitLemmas.{committed}
 
@@ -94,6 +94,8 @@ keeps_more client views batches more one told was is =
       client = refl;
       start = refl;
       tells = refl;
+      is_alone = refl;
+      alone = λ alone owns. refl;
       limits = refl;
       history = record { since = Write client one.value ∷ []; begins = ap (λ (bs : List (Snapshot (List Point))). entries_of client bs) is ∙ entries-last client batches one };
       series = omega arith;

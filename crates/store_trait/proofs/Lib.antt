@@ -1,4 +1,5 @@
 mod AcceptLemmas
+mod AloneLemmas
 mod CommitLemmas
 mod ConflictLemmas
 mod FieldLemmas

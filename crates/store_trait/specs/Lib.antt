@@ -1,5 +1,6 @@
 pub mod Calls
 pub mod Gathered
+pub mod Laws
 pub mod Lists
 pub mod Plain
 pub mod Slots

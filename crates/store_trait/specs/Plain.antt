@@ -1,5 +1,5 @@
 -- What does a store in memory tell, and what holds of its fields?
-use Rattle.std.specs.Prelude.{◌≡◌, ◌⊎◌, ℕ, ◌+◌, ◌≤◌, true, IsTrue, List, [], ◌∷◌, map, length, replicate, Option, Some, None, IsSome, slice_get, if◌then◌else◌}
+use Rattle.std.specs.Prelude.{◌≡◌, ◌⊎◌, ℕ, ◌≤◌, true, IsTrue, List, [], ◌∷◌, map, length, replicate, Option, Some, None, IsSome, slice_get, if◌then◌else◌}
 use Rattle.std.specs.Option.{option_and_then}
 use Rattle.std.specs.declared.snapshot.Snapshot.{Snapshot}
 use Rattle.tsdb_types.specs.Moments.{IsMoment}
@@ -15,23 +15,19 @@ use Rattle.point_model.specs.declared.entry.Entry.TheVariants.{Write}
 use Rattle.point_model.specs.Measurements.{measurement_head, is_same_field}
 use Rattle.point_model.specs.Points.{Points, no_points, value_at}
 use Rattle.store_trait.specs.Slots.{Slots, Samples, slot_at, sample_of, held}
-use Rattle.store_trait.specs.Told.{Told, last_number}
+use Rattle.store_trait.specs.Told.{Told, last_number, numbers_from}
 
 -- the batches that were accepted, as entries of the client
 abbrev pub entries_of : ℕ → List (Snapshot (List Point)) → List Entry
 entries_of client batches = map (λ batch. Write client batch.value) batches
 
--- the numbers of the entries, from this one on
-abbrev pub numbers_from : ℕ → List Entry → List ℕ
-numbers_from number [] = []
-numbers_from number (entry ∷ entries) = number ∷ numbers_from (number + 1) entries
-
--- It began with nothing, has no limits, and all its entries are its own.
+-- It began with nothing, is alone, has no limits, and all its entries are its own.
 abbrev pub told_of : ℕ → List (Snapshot (List Point)) → ℕ → Told
 told_of client batches views = record {
   client = client;
   start = nothing;
   tells = true;
+  is_alone = true;
   limits = None;
   history = entries_of client batches;
   own = numbers_from 1 (entries_of client batches);

@@ -1,5 +1,5 @@
 -- What does a store tell of itself, and what may a call change of it?
-use Rattle.std.specs.Prelude.{◌≡◌, ℕ, ◌≤◌, Bool, List, ◌++◌, length, sum_by, Option}
+use Rattle.std.specs.Prelude.{◌≡◌, ℕ, ◌+◌, ◌≤◌, Bool, IsTrue, List, [], ◌∷◌, ◌++◌, length, sum_by, Option}
 use Rattle.point_model.specs.declared.entry.Entry.{Entry}
 use Rattle.point_model.specs.Histories.{State, state_after}
 use Rattle.point_model.specs.declared.entry.Entry.TheVariants.{Write, Delete}
@@ -20,6 +20,8 @@ pub record Told : Type 0 where
   pub start : State
   -- whether these are the points that it has: it has no disk, or one that tells and was sound
   pub tells : Bool
+  -- whether no other client adds entries
+  pub is_alone : Bool
   -- none of a store without limits
   pub limits : Option Limits
   -- the entries since the start that it knows, its own and those of other clients
@@ -39,16 +41,27 @@ state_now told = state_after told.start told.history
 abbrev pub last_number : ℕ
 last_number = 9223372036854775807
 
+-- the numbers of the entries, from this one on
+abbrev pub numbers_from : ℕ → List Entry → List ℕ
+numbers_from number [] = []
+numbers_from number (entry ∷ entries) = number ∷ numbers_from (number + 1) entries
+
+-- each entry that it knows is its own, once
+abbrev pub OwnsAll : Told → Type 0
+OwnsAll told = told.own ≡ numbers_from (told.start.number + 1) told.history
+
 -- The later history begins with the earlier one.
 pub record IsLater (old new : List Entry) : Type 0 where
   pub since : List Entry
   pub begins : new ≡ old ++ since
 
--- What every call keeps. Entries of other clients may come in between.
+-- What every call keeps. Entries of other clients may come in between, but to a store that is alone.
 pub record Keeps (old new : Told) : Type 0 where
   pub client : new.client ≡ old.client
   pub start : new.start ≡ old.start
   pub tells : new.tells ≡ old.tells
+  pub is_alone : new.is_alone ≡ old.is_alone
+  pub alone : IsTrue new.is_alone → OwnsAll old → OwnsAll new
   pub limits : new.limits ≡ old.limits
   pub history : IsLater old.history new.history
   pub series : old.series ≤ new.series

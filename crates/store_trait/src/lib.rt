@@ -12,10 +12,8 @@ mod samples;
 mod slots;
 mod store;
 mod tags;
-#[cfg(test)]
-mod tests;
 
 pub use fault::{ViewFault, WriteFault};
 pub use list_view::ListView;
 pub use plain::PlainStore;
-pub use store::Store;
+pub use store::{Store, alone_changes_itself};

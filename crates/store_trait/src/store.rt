@@ -2,15 +2,17 @@ ghost use Rattle.std.specs.Prelude.{◌≡◌, Contains, false, IfOk, IfErr, OnE
 ghost use Rattle.shard_disk.specs.Health.{Health, Ages, IsFresh};
 ghost use Rattle.point_model.specs.Acceptance.{IsWritable};
 ghost use Rattle.store_trait.specs.Told.{Told, Keeps, IsAlike, state_now};
-ghost use Rattle.store_trait.specs.Calls.Write.{Accepts, WriteHasCause};
-ghost use Rattle.store_trait.specs.Calls.View.{Begins, Ends, TakesBack, ViewHasCause};
+ghost use Rattle.store_trait.specs.Calls.Write.{Accepts, WriteHasCause, IsQuiet as IsQuietWrite};
+ghost use Rattle.store_trait.specs.Laws.{AloneChangesItself};
+ghost use Rattle.store_trait.specs.Calls.View.{Begins, Ends, TakesBack, ViewHasCause, IsQuiet as IsQuietView};
 
 use crate::{ViewFault, WriteFault};
 use point_model::{Need, PointCursor};
 use tsdb_types::Batch;
 
 /// Points that a client writes to and reads. Its points are those of its start behind the entries of its history, which other
-/// clients may add to between its calls. A refused call leaves the points and the numbers, but for entries of others.
+/// clients may add to between its calls, but where the store is alone. A refused call leaves the points and the numbers, but
+/// for entries of others. The count of faults rises by an answer that tells one, and by the end of a view that met one.
 pub trait Store {
     type View: PointCursor;
 
@@ -26,7 +28,8 @@ pub trait Store {
         ensures err { OnErr result (IsAlike (told self.old) (told self.new)) }
         ensures refused { IfErr result (WriteHasCause batch.now (told self.new) (health self.old) (health self.new)) }
         ensures kept { Keeps (told self.old) (told self.new) }
-        ensures ages { Ages (health self.old) (health self.new) };
+        ensures ages { Ages (health self.old) (health self.new) }
+        ensures quiet { IsQuietWrite result (health self.old) (health self.new) };
 
     /// A view of the points as they are now. It has to be ended.
     fn begin_view(&mut self, need: &Need) -> Result<Self::View, ViewFault>
@@ -37,7 +40,8 @@ pub trait Store {
         ensures err { OnErr result (IsAlike (told self.old) (told self.new)) }
         ensures refused { IfErr result (ViewHasCause (told self.new) (health self.old) (health self.new)) }
         ensures kept { Keeps (told self.old) (told self.new) }
-        ensures ages { Ages (health self.old) (health self.new) };
+        ensures ages { Ages (health self.old) (health self.new) }
+        ensures quiet { IsQuietView result (health self.old) (health self.new) };
 
     /// Takes back a view that is out. It takes no memory.
     fn end_view(&mut self, view: Self::View)
@@ -53,3 +57,8 @@ pub trait Store {
         ensures kept { Keeps (told self.old) (told self.new) }
         ensures health { health self.new ≡ health self.old };
 }
+
+/// A store that is alone has no entries but its own: a refused call makes none, and an accepted write makes one.
+pub fn alone_changes_itself()
+    ensures { AloneChangesItself }
+{}

@@ -15,6 +15,3 @@ mod words;
 
 pub use coding::encode;
 pub use reading::decode;
-
-#[cfg(test)]
-mod tests;

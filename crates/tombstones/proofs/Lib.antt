@@ -4,3 +4,4 @@ pub mod KeptLemmas
 pub mod FewestLemmas
 pub mod FormatLemmas
 pub mod ReadLemmas
+pub mod HidingLemmas

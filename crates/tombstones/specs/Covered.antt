@@ -1,9 +1,9 @@
 -- What tombstones hide.
-use Rattle.std.specs.Prelude.{◌≡◌, ℕ, ℤ, ◌≤ℤ◌, ◌⊎◌, ◌↔◌, List, [], ◌∷◌, ⊤}
+use Rattle.std.specs.Prelude.{◌≡◌, ℕ, ℤ, ◌≤ℤ◌, int_le, nat_eq, Bool, false, ◌&&◌, ◌||◌, ◌⊎◌, ◌↔◌, List, [], ◌∷◌, ⊤}
 use Rattle.std.specs.List.{AllByRecursion}
 use Rattle.std.specs.Ordering.{nat_cmp}
 use Rattle.std.specs.declared.cmp.Ordering.TheVariants.{Less}
-use Rattle.std.specs.Cmp.Lexicographic.{slice_cmp}
+use Rattle.std.specs.Cmp.Lexicographic.{pointwise, slice_cmp}
 use Rattle.tsdb_types.specs.Moments.{IsMoment}
 use Rattle.tombstones.specs.declared.range.TombRange.{TombRange}
 use Rattle.tombstones.specs.Ranges.{Spans, IsApart}
@@ -17,6 +17,15 @@ pub record Tomb : Type 0 where
 abbrev pub Hides : List Tomb → List ℕ → ℤ → Type 0
 Hides [] key time = ⊥
 Hides (tomb ∷ tombs) key time = ((tomb.key ≡ key) × Spans tomb.range time) ⊎ Hides tombs key time
+
+-- the tombstone is of this key and has the time
+abbrev pub is_hidden_by : Tomb → List ℕ → ℤ → Bool
+is_hidden_by tomb key time = pointwise nat_eq tomb.key key && (int_le tomb.range.from time && int_le time tomb.range.to)
+
+-- the same of all of them, as a test
+abbrev pub hides : List Tomb → List ℕ → ℤ → Bool
+hides [] key time = false
+hides (tomb ∷ tombs) key time = is_hidden_by tomb key time || hides tombs key time
 
 -- the two lists hide the same moments of each key
 abbrev pub HideSame : List Tomb → List Tomb → Type 0

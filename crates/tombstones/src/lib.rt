@@ -11,7 +11,7 @@ mod read;
 mod set;
 mod write;
 
-pub use laws::one_form;
+pub use laws::{hiding_is_tested, one_form};
 pub use range::TombRange;
 pub use read::read_v2;
 pub use set::TombSet;

@@ -1,6 +1,6 @@
 ghost use Rattle.std.specs.Prelude.{◌≡◌, ◌^◌, ◌<◌, ℤ, ◌≤ℤ◌, ◌↔◌, [], length, IsTrue, OnOk, OnErr, IfOk};
 ghost use Rattle.tombstones.specs.Ranges.{Covers, AreApart};
-ghost use Rattle.tombstones.specs.Covered.{Hides, HidesAlso};
+ghost use Rattle.tombstones.specs.Covered.{Hides, HidesAlso, hides};
 ghost use Rattle.tombstones.specs.Kept.{tombs_of, AreRows, finds};
 ghost use Rattle.std.specs.Map.{lookup};
 
@@ -57,7 +57,8 @@ impl TombSet {
 
     /// Whether the point of the key at the time is hidden. Takes no memory.
     pub fn covers(&self, key: &[u8], time: Time) -> bool
-        ensures { IsTrue result ↔ Hides self.now key.now time }
+        ensures hides { IsTrue result ↔ Hides self.now key.now time }
+        ensures test { result ≡ hides self.now key.now time }
     {
         covers_in(self.ranges(key), time)
     }

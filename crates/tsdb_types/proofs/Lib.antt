@@ -1,3 +1,4 @@
+pub mod ColumnLemmas
 pub mod EscapeLemmas
 pub mod KeyLemmas
 pub mod ReadingLemmas

@@ -67,6 +67,15 @@ pub fn key_fault(series: &SeriesKey, field: &Name) -> Option<KeyFault>
     }
 }
 
+/// The place of a mark that begins before the end of the series in the key of each of its fields: `composite` refuses them all.
+pub fn mark_in_series(series: &SeriesKey) -> Option<usize>
+    ensures found { IfSome result (λ at. at < length series.now) }
+    ensures first { IfSome result (λ at. (field : List ℕ) → IsFirstMark (key_of series.now field) at) }
+    ensures none { IfNone result ((field : List ℕ) → IsFirstMark (key_of series.now field) (length series.now)) }
+{
+    mark_before_end(series.text().as_bytes())
+}
+
 /// The place of the first mark `#!~#`, where the series of a key ends.
 pub fn split(bytes: &[u8]) -> Option<usize>
     ensures found { IfSome result (IsFirstMark bytes.now) }

@@ -17,6 +17,7 @@ use std::alloc::{AllocError, AllocFailed, Global};
 use std::cmp::Ordering;
 use std::hash::{Hash, Hasher};
 use std::marker::Model;
+use std::sync::ArcStr;
 use thiserror::Error;
 
 // The bytes before which a key has a backslash in a measurement.
@@ -27,22 +28,22 @@ pub const TAG_ENDS: &[u8] = b",= ";
 
 /// The key of a series, as its escaped text: the measurement, with a backslash before each comma and space, then for
 /// each tag in ascending order of key a comma, the key, an equals sign and the value, with a backslash before each comma,
-/// equals sign and space. A contract sees the bytes of that text.
+/// equals sign and space. A contract sees the bytes of that text. Keys that were carried from one another share it.
 #[derive(Debug, Drop)]
 pub struct SeriesKey {
-    text: String,
+    text: ArcStr,
 }
 
 impl Model for SeriesKey {
     ghost use Rattle.std.specs.Prelude.{ℕ, List};
-    ghost use Rattle.std.specs.String.{string_bytes};
+    ghost use Rattle.std.specs.Arc.{arc_str_bytes};
     ghost use Rattle.tsdb_types.specs.Series.{IsSeriesText};
 
     ghost Value = { List ℕ };
 
-    ghost view = { λ s. string_bytes s.text };
+    ghost view = { λ s. arc_str_bytes s.text };
 
-    ghost invariant = { λ s. IsSeriesText (string_bytes s.text) };
+    ghost invariant = { λ s. IsSeriesText (arc_str_bytes s.text) };
 }
 
 /// Why a measurement and tags were made no key.
@@ -74,7 +75,8 @@ impl SeriesKey {
             return Err(SeriesFault::DuplicateTag);
         }
         let text = spelled(alloc, &measurement, tags.as_slice())?;
-        Ok(SeriesKey { text })
+        let key = SeriesKey::from_string(text)?;
+        Ok(key)
     }
 
     /// The key with this text; `None` exactly where no key has it.
@@ -85,16 +87,17 @@ impl SeriesKey {
         if !is_series_text(text.as_bytes()) {
             return Ok(None);
         }
-        let text = String::from_str(alloc, text)?;
+        let text = ArcStr::from_str(alloc, text)?;
         Ok(Some(SeriesKey { text }))
     }
 
-    /// The key that this text is.
-    pub fn from_string(text: String) -> SeriesKey
+    /// The key that this text is. The text isn't copied; what shares it is made.
+    pub fn from_string(text: String) -> Result<SeriesKey, AllocError>
         requires series { IsSeriesText (string_bytes text) }
-        ensures text { result ≡ string_bytes text }
+        ensures text { IfOk result (λ key. key ≡ string_bytes text) }
     {
-        SeriesKey { text }
+        let text = ArcStr::from_string(text)?;
+        Ok(SeriesKey { text })
     }
 
     /// The series without tags of a measurement whose text needs no escape: it holds no comma and no space.
@@ -103,7 +106,7 @@ impl SeriesKey {
         ensures text { result ≡ measurement_text measurement }
     {
         SeriesKey {
-            text: measurement.into_text(),
+            text: measurement.into_shared(),
         }
     }
 
@@ -119,7 +122,7 @@ impl SeriesKey {
     pub fn is_of(&self, measurement: &Name) -> bool
         ensures { result ≡ is_series_of measurement.now self.now }
     {
-        let mut left = self.text.as_bytes();
+        let mut left = self.text().as_bytes();
         for byte in measurement.as_str().as_bytes() {
             match behind_spelled(*byte, left) {
                 None => return false,
@@ -132,7 +135,8 @@ impl SeriesKey {
         }
     }
 
-    /// An equal key.
+    /// An equal key that shares the text: nothing is copied or allocated. It is refused where the count of those that share
+    /// it is full, at 2^63.
     pub fn carry(&self) -> Result<SeriesKey, AllocError>
         ensures { IfOk result (λ key. key ≡ self.now) }
     {

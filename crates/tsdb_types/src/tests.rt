@@ -1,6 +1,6 @@
 use crate::{
-    Batch, Cell, KeyFault, Name, Point, SeriesFault, SeriesKey, Tag, Tags, Time, Value, composite,
-    split,
+    Batch, Cell, KeyFault, Name, Point, Seed, SeriesFault, SeriesKey, Tag, Tags, Time, Value,
+    composite, split,
 };
 use std::alloc::Global;
 use std::process::Abort;
@@ -125,7 +125,11 @@ fn a_mark_in_the_series_is_named(rt: HostRuntime) {
 
 #[test]
 fn a_batch_has_a_point(rt: HostRuntime) {
-    assert!(&rt; Batch::new(Vec::new(rt.alloc())).is_none());
+    assert!(&rt;
+        Batch::new(Vec::new(rt.alloc()), Seed::new(7))
+            .expect(&rt, "room")
+            .is_none()
+    );
     let series = SeriesKey::make(
         rt.alloc(),
         name(&rt, rt.alloc(), "cpu"),

@@ -2,7 +2,6 @@
 mod faults;
 mod host;
 mod rows;
-mod short;
 
 use crate::{OpenGate, tsmd};
 use session_io::{Client, Closed, Desk, MemClock, MemDesk, MemSink, MemSource, Word};

@@ -11,8 +11,6 @@ mod integers;
 mod law;
 mod numbers;
 mod points;
-#[cfg(test)]
-mod tests;
 mod words;
 
 pub use decoder::decode;

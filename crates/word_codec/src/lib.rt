@@ -14,6 +14,3 @@ pub use error::UvarintFault;
 pub use signed::{unzigzag, zigzag};
 pub use uvarint::{read_uvarint, spellings_are_apart, write_uvarint};
 pub use words::{read_words, write_words};
-
-#[cfg(test)]
-mod tests;

@@ -1,5 +1,5 @@
 -- What does a view of a store show, when is it refused, and what does its end leave?
-use Rattle.std.specs.Prelude.{◌≡◌, ◌≢◌, ℕ, ◌≤◌, Bool, false, ◌==◌, IsTrue, List, [], ◌∷◌, All, IsSome, None, ⊤, if◌then◌else◌}
+use Rattle.std.specs.Prelude.{◌≡◌, ◌≢◌, ℕ, ◌≤◌, Bool, false, ◌==◌, IsTrue, List, [], ◌∷◌, All, IsSome, None, ⊤, Result, IsErrOf, if◌then◌else◌}
 use Rattle.shard_disk.specs.Health.{Health, Failed, Rose}
 use Rattle.tsdb_types.specs.Moments.{IsMoment}
 use Rattle.point_model.specs.declared.need.Need.{Need}
@@ -21,11 +21,16 @@ pub record Begins (need : Need) (shown : Shown) (loan : ℕ) (can_be_damaged : B
   pub told_is_whole : IsTrue new.tells → can_be_damaged ≡ false
   pub unlimited_is_whole : new.limits ≡ None → can_be_damaged ≡ false
 
--- why a view was refused, by what the store tells afterwards and by its health before and after
+-- Why a view was refused, by what the store tells afterwards and by its health before and after. So many views are out only
+-- where one of this store is; want of memory may come anywhere, and no device has failed then.
 abbrev pub ViewHasCause : Told → Health → Health → ViewFault → Type 0
 ViewHasCause told old new (fault.TooManyViews out) = IsSome told.limits × (told.out ≢ [])
 ViewHasCause told old new fault.Memory = ⊤
 ViewHasCause told old new fault.Fault = Failed old new
+
+-- no answer but a fault changes the health
+abbrev pub IsQuiet : {T : Type 0} → Result T ViewFault → Health → Health → Type 0
+IsQuiet result old new = ¬ (IsErrOf result fault.Fault) → new ≡ old
 
 -- the loans without the first of this number
 abbrev pub without : ℕ → List ℕ → List ℕ
@@ -37,8 +42,8 @@ pub record Ends (loan : ℕ) (old new : Told) : Type 0 where
   pub own : new.own ≡ old.own
   pub out : new.out ≡ without loan old.out
 
--- The store takes over that a view met faults. Where it met none, a steady store stays as it is.
+-- The store takes over that a view met faults. Where it met none, the store stays as it is.
 pub record TakesBack (view old new : Health) : Type 0 where
   pub grows : old.faults ≤ new.faults
   pub later : Rose 0 view.faults → Rose old.faults new.faults
-  pub steady : IsTrue old.is_steady → view.faults ≡ 0 → new ≡ old
+  pub quiet : view.faults ≡ 0 → new ≡ old

@@ -11,7 +11,10 @@ use Rattle.gate_log.specs.declared.fault.LogFault.{LogFault}
 use Rattle.gate_log.specs.declared.fault.LogFault.TheVariants.{Damaged}
 use Rattle.gate_log.specs.Damage.{bodies}
 use Rattle.manifest_log.specs.Reading.{IsWrong, StandsBehind, bodies_of}
-use Rattle.manifest_log.proofs.OpenLemmas.{strange_file, segment_file, some_edits}
+use Rattle.std.specs.Prelude.{IsTrue}
+use Rattle.gate_log.specs.Calls.Read.{Reads}
+use Rattle.manifest_log.specs.Edits.{empty}
+use Rattle.manifest_log.proofs.OpenLemmas.{lead_floor, lead_sound, strange_file, segment_file, some_edits}
 use Rattle.manifest_log.proofs.opening.read_file.Goals as goal
 
 pub returns-in_err-directory-clause-damaged : goal.returns-in_err-directory-clause-damaged
@@ -36,3 +39,23 @@ returns-then-is_empty-2-clause-damaged g c = λ damage is tells.
     let none : c.in_ok-directory.directory.segments ≡ [] = nil_from_length c.in_ok-directory.directory.segments (ap length (sym c.as_slice.ensures) ∙ here) in
     subst (λ (f : Files). HasFile f 0 (IsWrong damage)) c.read.ensures.files
     (segment_file damage c.in_ok-log.log.gate (bodies records) (g.D.Disk.files c.read.new.disk) found.0 c.in_ok-directory.directory read.fit (read.found tells) are (some_edits records found.0 some are) found.2 none told)
+
+pub returns-clause-found : goal.returns-clause-found
+returns-clause-found g c =
+    let read = c.in_ok-log.ensures.ok in
+    let found = c.in_ok-directory.ensures.found in
+    let records = c.in_ok-log.records.items in
+    let directory = c.in_ok-directory.directory in
+    let are : bodies records ≡ bodies_of found.0 = ap bodies (sym c.deref.ensures.value) ∙ found.1 in
+    let some : length records ≡ 0 → ⊥ = λ zero. false≢true (sym c.if-is_empty.false ∙ c.is_empty.ensures ∙ ap (λ n. n == 0) (c.in_ok-log.records.ok.0 ∙ zero)) in
+    let edits = some_edits records found.0 some are in
+    record {
+      edits = found.0;
+      some = edits;
+      log = subst (λ (r : List (List ℕ)). Reads (IsTrue g.D.Disk.tells) 0 c.in_ok-log.log r (g.D.Disk.files c.args.disk.now) (g.D.Disk.crashes c.args.disk.now) (g.D.Disk.crashes c.read.new.disk)) are
+          (subst (λ (f : Files). Reads (IsTrue g.D.Disk.tells) 0 c.in_ok-log.log (bodies records) f (g.D.Disk.crashes c.args.disk.now) (g.D.Disk.crashes c.read.new.disk)) c.read.ensures.files read);
+      lead = found.2;
+      segment = λ none. false≢true (sym c.if-is_empty-2.false ∙ c.is_empty-2.ensures ∙ ap (λ n. n == 0) (ap length (c.as_slice.ensures ∙ none)));
+      sound = lead_sound found.0 empty directory edits found.2.leave;
+      floor = lead_floor found.0 empty directory (omega arith) found.2.leave;
+    }

@@ -14,10 +14,9 @@ loop-record-init c = subst (λ (d : Directory). Folded [] d 0) (sym c.new-direct
 
 pub loop-record-preserved : goal.loop-record-preserved
 loop-record-preserved c =
-    let edit = c.in_ok-follow.ensures.follows c.if-not-branch.false in
     let record_ = c.record-item.result in
     folded_more c.args.records.now c.loop-record.record-index record_ c.loop-record.directory c.follow.new.directory c.deref.result.now c.loop-record.gate c.in-Some.next c.loop-record-test.true
-    (c.deref.ensures.value ∙ ap (λ (v : Vec ℕ Global). v.items) c.record-item.is) c.loop-record.invariant edit.0 edit.1 edit.2 edit.3
+    (c.deref.ensures.value ∙ ap (λ (v : Vec ℕ Global). v.items) c.record-item.is) c.loop-record.invariant (c.in_ok-follow.ensures.follows c.if-not-branch.false)
     (omega (arith, c.in-Some.ensures.1, c.len.ensures, record_.ok.0, ap length c.deref.ensures.value))
 
 pub returns-then-not-branch-clause-strange : goal.returns-then-not-branch-clause-strange

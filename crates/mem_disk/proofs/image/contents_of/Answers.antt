@@ -17,6 +17,6 @@ placing-preserved c =
     let bytes = c.in-Some.bytes in
     let is = c.deref.ensures.value in
     let file = subst (λ (b : List ℕ). ChangesAt no (Appears b) (reads (reverse old.changes.items)) (reads (reverse new.changes.items))) is c.in_ok-place.ensures.file in
-    let crash = subst (λ (b : List ℕ). Follows (ChangesAt no (Appears b)) (crashes_of old.changes.items) (crashes_of new.changes.items)) is c.in_ok-place.ensures.crash in
+    let crash = subst (λ (b : List ℕ). Follows (ChangesAt no (Appears b)) (crashes_of old.changes.items) (crashes_of new.changes.items)) is c.in_ok-place.ensures.crash.follows in
     built_more c.args.files c.placing.files c.pop_first.new.self old.changes.items new.changes.items old.next new.next no bytes c.placing.invariant
-    c.in-Some.ensures.value c.in-Some.ensures.least c.in-Some.ensures.updates file crash c.in_ok-place.ensures.next
+    c.in-Some.ensures.value c.in-Some.ensures.least c.in-Some.ensures.updates file crash c.in_ok-place.ensures.adopted c.in_ok-place.ensures.next

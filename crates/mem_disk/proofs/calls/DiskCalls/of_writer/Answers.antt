@@ -5,8 +5,8 @@ use Rattle.mem_disk.specs.Calls.{is_over, is_quiet, write_of}
 use Rattle.mem_disk.proofs.CallsLemmas.{writes_none, second_of}
 use Rattle.mem_disk.proofs.calls.DiskCalls.of_writer.Goals as goal
 
-pub returns : goal.returns
-returns c = record {
+pub returns-clause-fresh : goal.returns-clause-fresh
+returns-clause-fresh c = record {
   none = refl;
   steady = λ quiet.
       let m = c.args.self.now in

@@ -2,7 +2,7 @@ use Rattle.std.proofs.Common.{◌≡◌, ◌<◌, ◌++◌, [], ◌∷◌, ℕ, 
 use Rattle.std.specs.Prelude.{reverse}
 use Rattle.mem_disk.specs.declared.change.Change.{Change}
 use Rattle.mem_disk.specs.declared.change.Change.TheVariants.{Offered}
-use Rattle.mem_disk.proofs.Changes.{follows_offered}
+use Rattle.mem_disk.proofs.Changes.{exactly_offered}
 use Rattle.mem_disk.proofs.Kept.{adopted_kept, reads_kept, agrees_kept, was_there, settled_now, passes_by}
 use Rattle.mem_disk.proofs.contents.Contents.offer.Goals as goal
 
@@ -30,7 +30,7 @@ pub returns-clause-crash : goal.returns-clause-crash
 returns-clause-crash c =
     let m = c.args.self.now in
     let same : c.in_ok-copy.copy.items ≡ c.args.bytes.now = search rules in
-    follows_offered m.changes.items c.note.new.changes.items m.next c.in_ok-copy.copy c.args.bytes.now same
+    exactly_offered m.changes.items c.note.new.changes.items m.next c.in_ok-copy.copy c.args.bytes.now same
     (c.note.ensures.items ∙ ap (λ (l : List Change). l ++ Offered m.next c.in_ok-copy.copy ∷ []) c.make_room.ensures.items)
 
 pub returns-clause-adopted : goal.returns-clause-adopted

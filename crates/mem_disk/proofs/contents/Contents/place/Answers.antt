@@ -5,7 +5,7 @@ use Rattle.std.specs.BTreeSet.{btree_set_len}
 use Rattle.std.specs.Prelude.{reverse}
 use Rattle.mem_disk.specs.declared.change.Change.{Change}
 use Rattle.mem_disk.specs.declared.change.Change.TheVariants.{Added}
-use Rattle.mem_disk.proofs.Changes.{added_agrees, added_below, follows_added}
+use Rattle.mem_disk.proofs.Changes.{added_agrees, added_below, exactly_added}
 use Rattle.mem_disk.specs.History.{adopted_after}
 use Rattle.mem_disk.proofs.Kept.{adopted_set, lacked, lacks, none_adopted, placed, was_other, settled_now, passes_by, stops_at}
 use Rattle.mem_disk.proofs.Results.{when_ok, grows_by_one, one_more, flips}
@@ -48,7 +48,7 @@ pub returns-clause-crash : goal.returns-clause-crash
 returns-clause-crash c =
     let m = c.args.self.now in
     let same : c.in_ok-copy.copy.items ≡ c.args.bytes.now = search rules in
-    follows_added m.changes.items c.note.new.changes.items c.args.no c.in_ok-copy.copy c.args.bytes.now same
+    exactly_added m.changes.items c.note.new.changes.items c.args.no c.in_ok-copy.copy c.args.bytes.now same
     (c.note.ensures.items ∙ ap (λ (l : List Change). l ++ Added c.args.no c.in_ok-copy.copy ∷ []) c.make_room.ensures.items)
 
 pub returns-clause-adopted : goal.returns-clause-adopted

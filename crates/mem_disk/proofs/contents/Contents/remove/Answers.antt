@@ -1,19 +1,21 @@
-use Rattle.std.proofs.Common.{◌≡◌, false, inl, refl, sym, ◌∙◌, ap, arith, None}
+use Rattle.std.proofs.Common.{◌≡◌, false, refl, sym, ◌∙◌, ap, arith, None}
 use Rattle.std.specs.BTreeMap as tree
 use Rattle.std.specs.Ordering.{nat_cmp}
 use Rattle.std.specs.Prelude.{reverse}
 use Rattle.std.specs.BTreeMap.{btree_map_len}
-use Rattle.shard_disk.proofs.Runs.{adds_nothing}
-use Rattle.shard_disk.proofs.Steps.{changes_same}
 use Rattle.mem_disk.specs.declared.change.Change.TheVariants.{Removed}
-use Rattle.mem_disk.proofs.Changes.{follows_same, follows_removed, removed_agrees, removed_below}
+use Rattle.mem_disk.proofs.Changes.{exactly_removed, removed_agrees, removed_below}
 use Rattle.mem_disk.specs.History.{adopted_after, bytes_of}
+use Rattle.mem_disk.proofs.Images.{exactly_gone}
 use Rattle.mem_disk.proofs.Kept.{adopted_set, never_in, none_adopted, not_adopted, removed_was, settled_now}
 use Rattle.mem_disk.proofs.Results.{none_when, some_if}
 use Rattle.mem_disk.proofs.contents.Contents.remove.Goals as goal
 
 pub returns-then-is_none-clause-crash : goal.returns-then-is_none-clause-crash
-returns-then-is_none-clause-crash c = adds_nothing _ _ _ (changes_same c.args.no _ (λ file. inl refl)) (follows_same c.args.self.now.changes.items)
+returns-then-is_none-clause-crash c =
+    let m = c.args.self.now in
+    let gone : tree.get nat_cmp m.files c.args.no ≡ None = sym c.remove.ensures.value ∙ none_when c.remove.result c.if-is_none.ensures in
+    exactly_gone m.changes.items c.args.no (not_adopted (reverse m.changes.items) c.args.no (sym (m.agrees c.args.no) ∙ ap bytes_of gone))
 
 pub invariant_of-self-2 : goal.invariant_of-self-2
 invariant_of-self-2 c =
@@ -29,7 +31,7 @@ invariant_of-self-2 c =
     }
 
 pub returns-clause-crash : goal.returns-clause-crash
-returns-clause-crash c = follows_removed c.args.self.now.changes.items c.note.new.changes.items c.args.no c.note.ensures.items
+returns-clause-crash c = exactly_removed c.args.self.now.changes.items c.note.new.changes.items c.args.no c.note.ensures.items
 
 pub returns-then-is_none-clause-adopted : goal.returns-then-is_none-clause-adopted
 returns-then-is_none-clause-adopted c =

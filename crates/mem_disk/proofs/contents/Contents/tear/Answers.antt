@@ -3,7 +3,7 @@ use Rattle.std.specs.BTreeSet.{btree_set_len}
 use Rattle.std.specs.Prelude.{reverse}
 use Rattle.mem_disk.specs.declared.change.Change.{Change}
 use Rattle.mem_disk.specs.declared.change.Change.TheVariants.{Tore}
-use Rattle.mem_disk.proofs.Changes.{follows_tore}
+use Rattle.mem_disk.proofs.Changes.{exactly_tore}
 use Rattle.mem_disk.proofs.Kept.{adopted_kept, reads_kept, agrees_kept, was_there, settled_now, passes_by, lacks, lacked}
 use Rattle.mem_disk.proofs.Results.{one_more}
 use Rattle.mem_disk.proofs.contents.Contents.tear.Goals as goal
@@ -34,7 +34,7 @@ pub returns-clause-crash : goal.returns-clause-crash
 returns-clause-crash c =
     let m = c.args.self.now in
     let change : Change = Tore c.args.no c.args.at c.args.len in
-    follows_tore m.changes.items c.note.new.changes.items c.args.no c.args.at c.args.len (c.note.ensures.items ∙ ap (λ (l : List Change). l ++ change ∷ []) c.make_room.ensures.items)
+    exactly_tore m.changes.items c.note.new.changes.items c.args.no c.args.at c.args.len (c.note.ensures.items ∙ ap (λ (l : List Change). l ++ change ∷ []) c.make_room.ensures.items)
 
 pub returns-clause-adopted : goal.returns-clause-adopted
 returns-clause-adopted c =

@@ -7,7 +7,7 @@ use Rattle.std.specs.Prelude.{reverse, IsSome}
 use Rattle.mem_disk.specs.History.{adopted_after, bytes_of}
 use Rattle.mem_disk.specs.declared.change.Change.{Change}
 use Rattle.mem_disk.specs.declared.change.Change.TheVariants.{Wrote}
-use Rattle.mem_disk.proofs.Changes.{wrote_agrees, wrote_below, follows_wrote}
+use Rattle.mem_disk.proofs.Changes.{wrote_agrees, wrote_below, exactly_wrote}
 use Rattle.mem_disk.proofs.Kept.{adopted_kept, overwrote, rewrote_agrees, still_was, still_settled, written_was, settled_now, passes_by, lacks, lacked}
 use Rattle.mem_disk.proofs.Results.{one_more}
 use Rattle.mem_disk.proofs.contents.Contents.write.Goals as goal
@@ -68,7 +68,7 @@ pub returns-clause-crash : goal.returns-clause-crash
 returns-clause-crash c =
     let m = c.args.self.now in
     let same : c.in_ok-copy.copy.items ≡ c.args.bytes.now = search rules in
-    follows_wrote m.changes.items c.note.new.changes.items c.args.no c.args.at c.in_ok-copy.copy c.args.bytes.now same
+    exactly_wrote m.changes.items c.note.new.changes.items c.args.no c.args.at c.in_ok-copy.copy c.args.bytes.now same
     (c.note.ensures.items ∙ ap (λ (l : List Change). l ++ Wrote c.args.no c.args.at c.in_ok-copy.copy ∷ []) c.make_room.ensures.items)
 
 pub returns-clause-adopted : goal.returns-clause-adopted

@@ -1,8 +1,8 @@
-use Rattle.mem_disk.proofs.Changes.{follows_same}
+use Rattle.mem_disk.proofs.Changes.{exactly_same}
 use Rattle.mem_disk.proofs.disk.MemDiskDisk.len.Goals as goal
 
 pub returns-then-fails-clause-crash : goal.returns-then-fails-clause-crash
-returns-then-fails-clause-crash c = follows_same c.args.self.now.contents.changes.items
+returns-then-fails-clause-crash c = exactly_same c.args.self.now.contents.changes.items
 
 pub returns-clause-crash : goal.returns-clause-crash
-returns-clause-crash c = follows_same c.args.self.now.contents.changes.items
+returns-clause-crash c = exactly_same c.args.self.now.contents.changes.items

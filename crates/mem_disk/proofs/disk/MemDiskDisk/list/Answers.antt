@@ -3,18 +3,18 @@ use Rattle.std.specs.BTreeMap as tree
 use Rattle.std.specs.FinMap.{keys}
 use Rattle.std.specs.Prelude.{reverse}
 use Rattle.mem_disk.specs.History.{reads}
-use Rattle.mem_disk.proofs.Changes.{follows_same}
+use Rattle.mem_disk.proofs.Changes.{exactly_same}
 use Rattle.mem_disk.proofs.Listing.{keys_are, key_present}
 use Rattle.mem_disk.proofs.disk.MemDiskDisk.list.Goals as goal
 
 pub returns-then-fails-clause-crash : goal.returns-then-fails-clause-crash
-returns-then-fails-clause-crash c = follows_same c.args.self.now.contents.changes.items
+returns-then-fails-clause-crash c = exactly_same c.args.self.now.contents.changes.items
 
 pub returns-in_err-collect-clause-crash : goal.returns-in_err-collect-clause-crash
-returns-in_err-collect-clause-crash c = follows_same c.args.self.now.contents.changes.items
+returns-in_err-collect-clause-crash c = exactly_same c.args.self.now.contents.changes.items
 
 pub returns-clause-crash : goal.returns-clause-crash
-returns-clause-crash c = follows_same c.args.self.now.contents.changes.items
+returns-clause-crash c = exactly_same c.args.self.now.contents.changes.items
 
 pub returns-clause-numbers : goal.returns-clause-numbers
 returns-clause-numbers c =

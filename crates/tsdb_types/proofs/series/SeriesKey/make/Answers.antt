@@ -34,3 +34,12 @@ returns-clause-duplicate_tag c =
       λ is. absurd cc,
       λ not. absurd (not (differ_from_ascend c.args.tags c.sort_unstable.new.self.items same up)),
     )
+
+pub returns-in_err-key-clause-duplicate_tag : goal.returns-in_err-key-clause-duplicate_tag
+returns-in_err-key-clause-duplicate_tag c =
+    let same = subst (λ (t : List Tag). IsPermutation t c.sort_unstable.new.self.items) c.into_vec-tags.ensures c.sort_unstable.ensures.permutation in
+    let up = subst (λ (t : List Tag). Ascend t) c.as_slice.ensures.value (c.ascend.ensures.0 c.if-not-ascend.false) in
+    let p = err_from_is_err_and c.from_residual-in_err-key.result c.from_residual-in_err-key.ensures.1 in (
+      λ is differ. let a = p.1 in let b = p.2 in cc,
+      λ not. absurd (not (differ_from_ascend c.args.tags c.sort_unstable.new.self.items same up)),
+    )

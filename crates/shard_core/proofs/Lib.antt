@@ -1,0 +1,14 @@
+mod ListLemmas
+mod Standing
+mod PartLemmas
+mod EntryLaws
+mod SnapshotLaws
+mod MergeLaws
+mod ImageLemmas
+mod OtherLaws
+mod KindLemmas
+mod ComeLemmas
+mod SoundLemmas
+mod OpeningLemmas
+mod WholeLemmas
+mod AcceptanceLemmas
