@@ -1,4 +1,6 @@
 //! The disk of a folder: which system calls it makes in which order, what is left alone, and what a second opening finds.
+ghost use Rattle.std.specs.Prelude.{◌≡◌, ℕ, IfOk};
+
 use crate::watched::Watched;
 use host_disk::{Folder, HostDisk, HostFolder};
 use shard_disk::{Disk, Trouble, Writer};
@@ -15,7 +17,9 @@ fn room(rt: HostRuntime, name: &str) -> io::Result<String> {
 }
 
 /// A disk over a folder of this place that is watched: its calls go to the file beside it.
-fn watched(rt: HostRuntime, path: &str, failing: &'static str) -> io::Result<HostDisk<Watched>> {
+fn watched(rt: HostRuntime, path: &str, failing: &'static str) -> io::Result<HostDisk<Watched>>
+    ensures { IfOk result (λ disk. (n : ℕ) → (⟦<HostDisk<Watched> as Disk>⟧.handed_out disk).readers n ≡ 0) }
+{
     let folder = HostFolder::new(rt, format!(in rt.alloc(); "{path}/disk")?.as_str())?;
     let trace = File::create(&rt, format!(in rt.alloc(); "{path}/calls")?.as_str())?;
     match HostDisk::over(rt.alloc(), Watched::new(rt.alloc(), folder, trace, failing)) {
@@ -83,8 +87,9 @@ sync 0.tsd
 open 0.tsd
 write 0.tsd
 sync 0.tsd
-remove 1.tsd
-sync folder
+";
+
+const REMOVED: &str = "sync folder
 remove 1.tsd
 sync folder
 ";
@@ -96,8 +101,6 @@ fn write_twice(disk: &mut HostDisk<Watched>) -> Result<(), Trouble> {
     disk.sync(0)?;
     disk.write_at(0, 0, b"A")?;
     disk.sync(0)?;
-    disk.remove(1)?;
-    disk.remove(1)?;
     Ok(())
 }
 
@@ -107,11 +110,16 @@ fn each_step_is_durable_before_the_next(rt: HostRuntime) -> Result<(), Fail> {
     let path = room(rt, "order")?;
     let mut disk = watched(rt, path.as_str(), "")?;
     let written = write_twice(&mut disk);
-    let read = three(&mut disk, 0);
     drop(disk);
     assert_eq!(rt; written, Ok(()));
-    assert_eq!(rt; read, Some(*b"ABC"));
     assert_eq!(rt; calls(rt, path.as_str())?.as_str(), ORDER);
+    let mut disk = watched(rt, path.as_str(), "")?;
+    let removed = disk.remove(1);
+    let read = three(&mut disk, 0);
+    drop(disk);
+    assert_eq!(rt; removed, Ok(()));
+    assert_eq!(rt; read, Some(*b"ABC"));
+    assert_eq!(rt; calls(rt, path.as_str())?.as_str(), REMOVED);
     fs::remove_dir_all(&rt, path.as_str())?;
     Ok(())
 }
@@ -159,12 +167,20 @@ fn a_failed_sync_ends_all_promises(rt: HostRuntime) -> Result<(), Fail> {
 fn a_failed_adoption_ends_all_promises(rt: HostRuntime) -> Result<(), Fail> {
     let path = room(rt, "adoption")?;
     let mut disk = watched(rt, path.as_str(), "rename to 1.tsd")?;
-    let adopted = (put(&mut disk, b"abc"), put(&mut disk, b"def"), put(&mut disk, b"ghi"));
+    let adopted = (
+        put(&mut disk, b"abc"),
+        put(&mut disk, b"def"),
+        put(&mut disk, b"ghi"),
+    );
     let synced = disk.sync(0).is_ok();
     drop(disk);
     let mut disk = watched(rt, path.as_str(), "")?;
     let adopted_again = (put(&mut disk, b"jkl"), put(&mut disk, b"mno"));
-    let read = (three(&mut disk, 0), three(&mut disk, 1), three(&mut disk, 2));
+    let read = (
+        three(&mut disk, 0),
+        three(&mut disk, 1),
+        three(&mut disk, 2),
+    );
     drop(disk);
     assert_eq!(rt; adopted, (Ok(0), Err(Trouble::Fault), Err(Trouble::Fault)));
     assert!(rt; !synced);
@@ -178,12 +194,16 @@ fn put_three(disk: &mut HostDisk) -> Result<(), Trouble> {
     put(disk, b"abc")?;
     put(disk, b"def")?;
     put(disk, b"ghi")?;
-    disk.remove(1)?;
     Ok(())
 }
 
 /// Names that are no names of a disk's files.
-const OTHERS: [&str; 4] = ["notes.tmp", "12.tsd", "4294967295.tsd", "0000000001.tsd.bak"];
+const OTHERS: [&str; 4] = [
+    "notes.tmp",
+    "12.tsd",
+    "4294967295.tsd",
+    "0000000001.tsd.bak",
+];
 
 /// Leaves files and a folder of others, and a file that wasn't adopted.
 fn leave(rt: HostRuntime, path: &str) -> io::Result<()> {
@@ -191,7 +211,11 @@ fn leave(rt: HostRuntime, path: &str) -> io::Result<()> {
         fs::write(&rt, format!(in rt.alloc(); "{path}/{name}")?.as_str(), name)?;
     }
     fs::create_dir(&rt, format!(in rt.alloc(); "{path}/cache.tmp")?.as_str())?;
-    fs::write(&rt, format!(in rt.alloc(); "{path}/0000000007.tmp")?.as_str(), "left")
+    fs::write(
+        &rt,
+        format!(in rt.alloc(); "{path}/0000000007.tmp")?.as_str(),
+        "left",
+    )
 }
 
 /// Whether what others left is as it was, and the file that wasn't adopted is gone.
@@ -202,7 +226,10 @@ fn is_tidied(rt: HostRuntime, path: &str) -> io::Result<bool> {
             return Ok(false);
         }
     }
-    let is_left = fs::exists(&rt, format!(in rt.alloc(); "{path}/0000000007.tmp")?.as_str())?;
+    let is_left = fs::exists(
+        &rt,
+        format!(in rt.alloc(); "{path}/0000000007.tmp")?.as_str(),
+    )?;
     Ok(!is_left)
 }
 
@@ -219,10 +246,16 @@ fn a_folder_is_opened_again(rt: HostRuntime) -> Result<(), Fail> {
     assert!(rt; is_locked);
     leave(rt, path.as_str())?;
     let mut disk = HostDisk::open(rt, path.as_str())?;
+    let removed = disk.remove(1);
     let next = put(&mut disk, b"jkl");
-    let read = (three(&mut disk, 0), three(&mut disk, 2), three(&mut disk, 3));
+    let read = (
+        three(&mut disk, 0),
+        three(&mut disk, 2),
+        three(&mut disk, 3),
+    );
     let numbers = disk.list();
     drop(disk);
+    assert_eq!(rt; removed, Ok(()));
     assert_eq!(rt; next, Ok(3));
     assert_eq!(rt; read, (Some(*b"abc"), Some(*b"ghi"), Some(*b"jkl")));
     assert_eq!(rt; numbers?.as_slice(), [0, 2, 3].as_slice());
