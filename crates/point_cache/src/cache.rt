@@ -4,6 +4,7 @@ use crate::key_points::KeyPoints;
 use crate::rows::copy_within;
 use crate::runs::Runs;
 use std::alloc::{AllocError, Global};
+use std::hash::RandomState;
 use std::marker::Model;
 use std::snapshot::Snapshot;
 use std::sync::Arc;
@@ -54,13 +55,14 @@ impl PointCache {
     ghost use Rattle.point_cache.specs.Cached.{AreAscending, AreRuns, IsRun, KeysAscend, count, points_at, rows_within};
     ghost use Rattle.point_cache.specs.Calls.{SetsPoints, TakesAway, Freezes};
 
-    /// A cache without points, and without a snapshot.
-    pub fn new(alloc: Global) -> PointCache
+    /// A cache without points, and without a snapshot. Its keys are hashed by a seed of their own, so that nobody can choose
+    /// keys of one hash.
+    pub fn new(alloc: Global, hashing: RandomState) -> PointCache
         ensures { result ≡ record { runs = []; room = None; snapshot = None; tombs = [] } }
     {
         PointCache {
             alloc,
-            runs: Runs::new(alloc),
+            runs: Runs::new(alloc, hashing),
             keys: 0,
             room: None,
             snapshot: None,

@@ -1,8 +1,13 @@
 // The points of one key, and behind them what a batch will make of them.
 use crate::rows::{append_firsts, before, cut_out, earliest, gather, is_in_order, parts, range};
+use indexmap::IndexMap;
 use std::alloc::{AllocError, Global};
+use std::hash::RandomState;
 use std::marker::Model;
 use tsdb_types::{Time, Value};
+
+/// Runs by their keys.
+pub(crate) type RunMap = IndexMap<Vec<u8>, Run, RandomState>;
 
 /// The first `live` points are those of the key. What stands behind them is staged: it takes the place of the live ones
 /// from `cut` on. Points of a batch that come in the order of time are staged where they will stay.

@@ -3,19 +3,20 @@ use crate::key_points::KeyRun;
 use crate::places::{
     commit_all, discard_all, follows, goes_on, place_of, put_at, settle_all, touch, write_key,
 };
-use crate::run::Run;
+use crate::run::RunMap;
 use crate::taking::{remove_at, take_rows, turn_round};
 use indexmap::IndexMap;
 use std::alloc::{AllocError, Global};
+use std::hash::RandomState;
 use std::marker::Model;
 use tsdb_types::{Cell, Point, Time, Value};
 
-/// Keys with their runs, in a hash table that keeps places. A batch notes the places that it touches, each once, in the order
+/// Keys with their runs, in a hash table that keeps places and whose hashes are seeded, since clients choose the keys. A batch notes the places that it touches, each once, in the order
 /// of their first points: points mostly come in that order again, and then no key is looked up.
 #[derive(Drop)]
 pub(crate) struct Runs {
     alloc: Global,
-    map: IndexMap<Vec<u8>, Run>,
+    map: RunMap,
     touched: Vec<usize>,
     // Where the place of the last point stands among those that are touched, as it seems.
     last: usize,
@@ -45,12 +46,12 @@ impl Runs {
     ghost use Rattle.point_cache.specs.Staged.{Among, AreSettled, KeysApart, lives, nexts, plain, staged_at};
     ghost use Rattle.point_cache.specs.Steps.{AddsKey, Grows, FindsKey, HasKey, IsFoundOf, IsPlaceBefore, Settles, StagesAt, WillSet};
 
-    pub(crate) fn new(alloc: Global) -> Runs
+    pub(crate) fn new(alloc: Global, hashing: RandomState) -> Runs
         ensures { result ≡ record { entries = []; touched = [] } }
     {
         Runs {
             alloc,
-            map: IndexMap::new(alloc),
+            map: IndexMap::with_hasher(alloc, hashing),
             touched: Vec::new(alloc),
             last: 0,
             points: 0,
@@ -244,5 +245,9 @@ impl Runs {
 
 // The place behind one of so many, the first behind the last.
 fn behind(place: usize, many: usize) -> usize {
-    if place < many && many - place > 1 { place + 1 } else { 0 }
+    if place < many && many - place > 1 {
+        place + 1
+    } else {
+        0
+    }
 }

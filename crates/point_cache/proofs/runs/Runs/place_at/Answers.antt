@@ -15,4 +15,3 @@ returns-then-goes_on-clause-found c = λ point at.
     let there = slice_get-get_or points k point before in
     let was = c.requires.before k on.1 (get_or points k point) there in
     (inl (refl, subst (HasKey c.args.self.now.entries c.args.place) (on.2 (get_or points k point) point there at) was.0), was.1)
-
