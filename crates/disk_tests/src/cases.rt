@@ -169,7 +169,8 @@ fn a_disk_in_memory_meets_every_case(rt: HostRuntime) -> Result<(), Fail> {
 #[test]
 fn a_fuse_meets_every_case(rt: HostRuntime) -> Result<(), Fail> {
     let alloc = rt.alloc();
-    let mut fuse = Fuse::new(MemDisk::new(alloc, Vec::new(alloc)), u64::MAX);
+    let disk = MemDisk::new(alloc, Vec::new(alloc));
+    let mut fuse = Fuse::new(disk, u64::MAX);
     assert_eq!(rt; first_unmet(alloc, &mut fuse)?, None);
     Ok(())
 }

@@ -54,7 +54,12 @@ pub(super) struct Watched {
 
 impl Watched {
     /// It writes to this file, and fails each time that the call of this line is made.
-    pub(super) fn new(alloc: Global, folder: HostFolder, file: File, failing: &'static str) -> Self {
+    pub(super) fn new(
+        alloc: Global,
+        folder: HostFolder,
+        file: File,
+        failing: &'static str,
+    ) -> Self {
         Watched {
             folder,
             trace: Trace {

@@ -3,6 +3,7 @@ mod ClosedLemmas
 mod CountLemmas
 mod KindLemmas
 mod LineLemmas
+mod NameLemmas
 mod NumberLemmas
 pub mod OnceLemmas
 pub mod OrderLemmas

@@ -42,7 +42,7 @@ cut-at (byte ∷ series) field (suc at) l m =
     ap (λ (t : Bool). bytes_eq (take 4 (key_of (byte ∷ series) field)) mark || t) (cut-at series field at (omega arith) m)
     ∙ or-right (bytes_eq (take 4 (key_of (byte ∷ series) field)) mark)
 
-cut-none : (series field : List ℕ) → ((at : ℕ) → at < length series → MarkAt (key_of series field) at → ⊥) → is_cut_short series field ≡ false
+pub cut-none : (series field : List ℕ) → ((at : ℕ) → at < length series → MarkAt (key_of series field) at → ⊥) → is_cut_short series field ≡ false
 cut-none [] field h = refl
 cut-none (byte ∷ series) field h =
     let test = bytes_eq (take 4 (key_of (byte ∷ series) field)) mark in

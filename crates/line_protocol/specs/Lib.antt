@@ -2,6 +2,7 @@ pub mod Batches
 pub mod Fields
 pub mod Heads
 pub mod Kinds
+pub mod Known
 pub mod Lines
 pub mod Names
 pub mod Numbers

@@ -12,7 +12,7 @@ use crate::fault::{LineCode, LineFault, Refusal};
 use crate::line::{Reader, read_any_line};
 use memchr::memchr_iter;
 use std::alloc::Global;
-use tsdb_types::{Batch, Point, Time};
+use tsdb_types::{Batch, BatchBuilder, Seed, Time};
 
 const MOST_BYTES: usize = 16777216;
 
@@ -35,7 +35,7 @@ pub fn read_batch(alloc: Global, bytes: &[u8], moment: Time) -> Result<Batch, Li
     }
     match read_lines(alloc, bytes, moment) {
         Err(fault) => Err(fault),
-        Ok(points) => match Batch::new(points) {
+        Ok(points) => match Batch::of(points) {
             Some(batch) => Ok(batch),
             None => Err(LineFault::Line {
                 code: LineCode::NoPoints,
@@ -83,13 +83,14 @@ fn is_open(bytes: &[u8]) -> bool
 }
 
 // The points of all lines, or the first fault, or that there are too many lines. Those are counted as they are read.
-fn read_lines(alloc: Global, bytes: &[u8], moment: Time) -> Result<Vec<Point>, LineFault>
+fn read_lines(alloc: Global, bytes: &[u8], moment: Time) -> Result<BatchBuilder, LineFault>
     requires few { length bytes.now ≤ 16777216 }
     requires utf8 { IsUtf8 bytes.now }
-    ensures { LinesGive (λ points. points.items) result (BatchIs bytes.now moment) }
+    ensures { LinesGive (λ points. points) result (BatchIs bytes.now moment) }
 {
-    let mut reader = Reader::new(alloc);
-    let mut points = Vec::new(alloc);
+    let seed = Seed::new(moment.get().unsigned_abs());
+    let mut reader = Reader::new(alloc, seed);
+    let mut points = BatchBuilder::new(alloc, seed);
     let mut number: u32 = 1;
     let mut left = bytes;
     'lines: loop {

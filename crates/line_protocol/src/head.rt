@@ -28,7 +28,8 @@ pub fn read_series<'a>(
 {
     if walk.ascend {
         let text = Vec::from_slice(alloc, walk.head)?;
-        return Ok(key_of(text));
+        let key = key_of(text)?;
+        return Ok(key);
     }
     let (_, tags) = cut(walk.head, b',');
     sort_parts(parts, tags)?;
@@ -36,14 +37,15 @@ pub fn read_series<'a>(
         return Err(Refusal::Code(LineCode::DuplicateTag));
     }
     let text = spelled(alloc, walk.head.len(), walk.measurement, parts.as_slice())?;
-    Ok(key_of(text))
+    let key = key_of(text)?;
+    Ok(key)
 }
 
 // The key with this text.
-fn key_of(text: Vec<u8>) -> SeriesKey
+fn key_of(text: Vec<u8>) -> Result<SeriesKey, AllocError>
     requires utf8 { IsUtf8 text.items }
     requires series { IsSeriesText text.items }
-    ensures { result ≡ text.items }
+    ensures { IfOk result (λ key. key ≡ text.items) }
 {
     match String::from_utf8(text) {
         Ok(text) => SeriesKey::from_string(text),

@@ -6,11 +6,14 @@ mod cut;
 mod fault;
 mod field;
 mod head;
+mod heads;
 mod kinds;
+mod known;
 mod line;
 mod name;
 mod number;
 mod place;
+mod points;
 mod sorted;
 mod spelled_field;
 #[cfg(test)]

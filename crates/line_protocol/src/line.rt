@@ -13,31 +13,39 @@ ghost use Rattle.line_protocol.specs.Parts as part;
 ghost use Rattle.line_protocol.specs.Readings.{IsRefusal, Refuses, Gives, unless};
 ghost use Rattle.line_protocol.specs.Texts.{IsOneLine, IsSpelling};
 
-use crate::cut::without_spaces;
+use crate::cut::{cut, without_spaces};
 use crate::fault::{LineCode, Refusal};
-use crate::field::{Field, read_fields};
+use crate::field::read_fields;
 use crate::head::{keys_differ, read_series};
+use crate::heads::Heads;
 use crate::kinds::Kinds;
+use crate::known::Known;
 use crate::number::{is_digits, number_of, without_minus};
+use crate::points::{add_points, is_marked};
 use crate::sorted::Part;
 use crate::spelled_field::SpelledField;
 use crate::walk::{Walk, walk_head};
 use std::alloc::{AllocError, AllocFailed, Global};
-use tsdb_types::{Cell, KeyFault, Name, Point, SeriesKey, Time, key_fault};
+use tsdb_types::{BatchBuilder, Seed, Time};
 
-// What is kept from line to line: the kinds of the fields so far, and room for the tags and the fields of one line.
+// What is kept from line to line: the heads and the kinds of the fields so far, where the columns of the last line may stand, and room
+// for the tags and the fields of one line.
 #[derive(Drop)]
 pub struct Reader<'a> {
+    pub heads: Heads<'a>,
+    pub last: u32,
     pub kinds: Kinds<'a>,
     pub tags: Vec<Part<'a>>,
     pub fields: Vec<SpelledField<'a>>,
 }
 
 impl<'a> Reader<'a> {
-    pub fn new(alloc: Global) -> Reader<'a>
+    pub fn new(alloc: Global, seed: Seed) -> Reader<'a>
         ensures { (place : List ℕ) → seen_of result.kinds place ≡ None }
     {
         Reader {
+            heads: Heads::new(alloc, seed),
+            last: 0,
             kinds: Kinds::new(alloc),
             tags: Vec::new(alloc),
             fields: Vec::new(alloc),
@@ -51,10 +59,10 @@ pub fn read_any_line<'a>(
     line: &'a [u8],
     moment: Time,
     reader: &mut Reader<'a>,
-    points: &mut Vec<Point>,
+    points: &mut BatchBuilder,
 ) -> Result<(), Refusal>
     requires { IsOneLine line.now }
-    ensures ok { OnOk result ((added : List Point) × (points.new.items ≡ points.old.items ++ added) × AnyLineIs (seen_of reader.old.kinds) moment line.now (Ok (record { points = added; seen = seen_of reader.new.kinds }))) }
+    ensures ok { OnOk result ((added : List Point) × (points.new ≡ points.old ++ added) × AnyLineIs (seen_of reader.old.kinds) moment line.now (Ok (record { points = added; seen = seen_of reader.new.kinds }))) }
     ensures refused { IfErr result (λ refusal. IsRefusal refusal (λ code. AnyLineIs (seen_of reader.old.kinds) moment line.now (Err code))) }
 {
     if is_skipped(line) {
@@ -72,15 +80,52 @@ fn is_skipped(line: &[u8]) -> bool
     }
 }
 
+// A head that stood in an earlier line isn't walked again.
 fn read_line<'a>(
     alloc: Global,
     line: &'a [u8],
     moment: Time,
     reader: &mut Reader<'a>,
-    points: &mut Vec<Point>,
+    points: &mut BatchBuilder,
 ) -> Result<(), Refusal>
     requires { IsOneLine line.now }
-    ensures ok { OnOk result ((added : List Point) × (points.new.items ≡ points.old.items ++ added) × LineIs (seen_of reader.old.kinds) moment line.now (Ok (record { points = added; seen = seen_of reader.new.kinds }))) }
+    ensures ok { OnOk result ((added : List Point) × (points.new ≡ points.old ++ added) × LineIs (seen_of reader.old.kinds) moment line.now (Ok (record { points = added; seen = seen_of reader.new.kinds }))) }
+    ensures refused { IfErr result (λ refusal. IsRefusal refusal (λ code. LineIs (seen_of reader.old.kinds) moment line.now (Err code))) }
+{
+    let (head, behind) = cut(line, b' ');
+    match reader.heads.find(head) {
+        None => read_new(alloc, line, moment, reader, points),
+        Some(known) => {
+            let names = reader.last;
+            reader.last = known.first;
+            let text = without_spaces(behind);
+            if text.is_empty() {
+                return Err(Refusal::Code(LineCode::NoField));
+            }
+            read_behind(
+                alloc,
+                known,
+                names,
+                text,
+                moment,
+                &mut reader.kinds,
+                &mut reader.fields,
+                points,
+            )
+        }
+    }
+}
+
+// Reads a line whose head is walked, and keeps the head.
+fn read_new<'a>(
+    alloc: Global,
+    line: &'a [u8],
+    moment: Time,
+    reader: &mut Reader<'a>,
+    points: &mut BatchBuilder,
+) -> Result<(), Refusal>
+    requires { IsOneLine line.now }
+    ensures ok { OnOk result ((added : List Point) × (points.new ≡ points.old ++ added) × LineIs (seen_of reader.old.kinds) moment line.now (Ok (record { points = added; seen = seen_of reader.new.kinds }))) }
     ensures refused { IfErr result (λ refusal. IsRefusal refusal (λ code. LineIs (seen_of reader.old.kinds) moment line.now (Err code))) }
 {
     match walk_head(line) {
@@ -91,7 +136,28 @@ fn read_line<'a>(
                 return Err(without_field(&walk, &mut reader.tags));
             }
             let series = read_series(alloc, &walk, &mut reader.tags)?;
-            read_behind(alloc, &walk, series, text, moment, reader, points)
+            let known = Known {
+                head: walk.head,
+                measurement: walk.measurement,
+                reserved: walk.reserved,
+                marked: is_marked(&series),
+                series,
+                first: u32::try_from(points.columns().len()).unwrap_or(0),
+            };
+            let names = reader.last;
+            reader.last = known.first;
+            read_behind(
+                alloc,
+                &known,
+                names,
+                text,
+                moment,
+                &mut reader.kinds,
+                &mut reader.fields,
+                points,
+            )?;
+            reader.heads.keep(known)?;
+            Ok(())
         }
     }
 }
@@ -119,25 +185,23 @@ fn without_field<'a>(walk: &Walk<'a>, tags: &mut Vec<Part<'a>>) -> Refusal
 // Reads what stands behind the head and its spaces, and adds the points.
 fn read_behind<'a>(
     alloc: Global,
-    walk: &Walk<'a>,
-    series: SeriesKey,
+    known: &Known<'a>,
+    names: u32,
     text: &'a [u8],
     moment: Time,
-    reader: &mut Reader<'a>,
-    points: &mut Vec<Point>,
+    kinds: &mut Kinds<'a>,
+    fields: &mut Vec<SpelledField<'a>>,
+    points: &mut BatchBuilder,
 ) -> Result<(), Refusal>
     requires one_line { IsOneLine (front 32 false text.now) }
-    requires spelling { IsSpelling measurement_ends_at walk.now.measurement.now }
-    ensures ok { OnOk result ((added : List Point) × (points.new.items ≡ points.old.items ++ added) × (rest_of (seen_of reader.old.kinds) moment (unescaped measurement_ends_at walk.now.measurement.now) walk.now.reserved series (front 32 false text.now) (unspaced (part.rest 32 false text.now)) ≡ Ok (record { points = added; seen = seen_of reader.new.kinds }))) }
-    ensures refused { IfErr result (λ refusal. Refuses refusal (rest_of (seen_of reader.old.kinds) moment (unescaped measurement_ends_at walk.now.measurement.now) walk.now.reserved series (front 32 false text.now) (unspaced (part.rest 32 false text.now)))) }
+    ensures ok { OnOk result ((added : List Point) × (points.new ≡ points.old ++ added) × (rest_of (seen_of kinds.old) moment (unescaped measurement_ends_at known.now.measurement) known.now.reserved known.now.series (front 32 false text.now) (unspaced (part.rest 32 false text.now)) ≡ Ok (record { points = added; seen = seen_of kinds.new }))) }
+    ensures refused { IfErr result (λ refusal. Refuses refusal (rest_of (seen_of kinds.old) moment (unescaped measurement_ends_at known.now.measurement) known.now.reserved known.now.series (front 32 false text.now) (unspaced (part.rest 32 false text.now)))) }
 {
-    let behind = read_fields(&mut reader.fields, text)?;
+    let behind = read_fields(fields, text)?;
     let time = read_time(without_spaces(behind), moment)?;
-    names_step(walk.reserved, reader.fields.as_slice())?;
-    add_points(alloc, series, reader.fields.as_slice(), time, points)?;
-    reader
-        .kinds
-        .note_all(walk.measurement, reader.fields.as_slice())?;
+    names_step(known.reserved, fields.as_slice())?;
+    add_points(alloc, known, names, fields.as_slice(), time, points)?;
+    kinds.note_all(known.measurement, fields.as_slice())?;
     Ok(())
 }
 
@@ -191,99 +255,4 @@ fn has_time(fields: &[SpelledField<'_>]) -> bool
         }
     }
     false
-}
-
-fn key_step(series: &SeriesKey, field: &Name) -> Result<(), Refusal>
-    ensures { Gives (λ _. true) result (spec.key_step series.now field.now) }
-{
-    match key_fault(series, field) {
-        None => Ok(()),
-        Some(fault) => Err(refusal_of(fault)),
-    }
-}
-
-fn refusal_of(fault: KeyFault) -> Refusal
-    ensures { result ≡ spec.refusal_of fault }
-{
-    match fault {
-        KeyFault::KeyTooLong { .. } => Refusal::Code(LineCode::KeyTooLong),
-        KeyFault::MarkInKey { .. } => Refusal::Code(LineCode::MarkInKey),
-        KeyFault::Memory => Refusal::Memory,
-    }
-}
-
-// Adds a point for each field, up to the first whose key has a fault. The last one takes the key of the series.
-fn add_points(
-    alloc: Global,
-    series: SeriesKey,
-    fields: &[SpelledField<'_>],
-    time: Time,
-    points: &mut Vec<Point>,
-) -> Result<(), Refusal>
-    ensures { Gives (λ _. points.new.items) result (with_points points.old.items time series (fields_spelled fields.now)) }
-{
-    match fields.split_last() {
-        None => Ok(()),
-        Some((last, others)) => {
-            match carry_points(alloc, &series, others, time, points) {
-                Err(refusal) => Err(refusal),
-                Ok(()) => add_point(alloc, series, last, time, points),
-            }
-        }
-    }
-}
-
-fn carry_points(
-    alloc: Global,
-    series: &SeriesKey,
-    fields: &[SpelledField<'_>],
-    time: Time,
-    points: &mut Vec<Point>,
-) -> Result<(), Refusal>
-    ensures { Gives (λ _. points.new.items) result (with_points points.old.items time series.now (fields_spelled fields.now)) }
-{
-    for field in fields {
-        match add_point(alloc, series.carry()?, field, time, points) {
-            Ok(()) => {}
-            Err(refusal) => return Err(refusal),
-        }
-    }
-    Ok(())
-}
-
-fn add_point(
-    alloc: Global,
-    series: SeriesKey,
-    field: &SpelledField<'_>,
-    time: Time,
-    points: &mut Vec<Point>,
-) -> Result<(), Refusal>
-    ensures { Gives (λ _. points.new.items) result (with_points points.old.items time series (field_spelled field.now ∷ [])) }
-{
-    let field = field.named(alloc)?;
-    match key_step(&series, &field.name) {
-        Err(refusal) => Err(refusal),
-        Ok(()) => {
-            push_point(series, field, time, points)?;
-            Ok(())
-        }
-    }
-}
-
-fn push_point(
-    series: SeriesKey,
-    field: Field,
-    time: Time,
-    points: &mut Vec<Point>,
-) -> Result<(), AllocError>
-    ensures { OnOk result (points.new.items ≡ points.old.items ++ points_of time series (field ∷ [])) }
-{
-    let Field { name, value } = field;
-    let cell = Cell {
-        time,
-        series,
-        field: name,
-    };
-    points.push(Point { cell, value })?;
-    Ok(())
 }

@@ -21,7 +21,7 @@ pub fn name_of(alloc: Global, part: &[u8], ends: &[u8]) -> Result<Name, AllocErr
     let mut text = Vec::with_capacity(alloc, part.len())?;
     push_name(&mut text, part, ends)?;
     match String::from_utf8(text) {
-        Ok(text) => Ok(Name::from_string(text)),
+        Ok(text) => Name::from_string(text),
         Err(_) => unreachable!(),
     }
 }

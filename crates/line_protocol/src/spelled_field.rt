@@ -2,9 +2,6 @@ ghost use Rattle.std.proofs.Props.{props};
 ghost use Rattle.tsdb_types.specs.Series.{tag_ends_at};
 ghost use Rattle.line_protocol.specs.Texts.{IsSpelling};
 
-use crate::field::Field;
-use crate::name::{TAG_ENDS, name_of};
-use std::alloc::{AllocError, Global};
 use tsdb_types::Value;
 
 // A field as its line spells it.
@@ -20,17 +17,6 @@ impl<'a> SpelledField<'a> {
     ghost use Rattle.std.specs.Str.{bytes_eq};
     ghost use Rattle.line_protocol.specs.Fields.{field_spelled};
     ghost use Rattle.line_protocol.specs.Heads.{time_word};
-
-    // The field, with a name of its own.
-    pub fn named(&self, alloc: Global) -> Result<Field, AllocError>
-        ensures { IfOk result (λ field. field ≡ field_spelled self.now) }
-    {
-        let name = name_of(alloc, self.key, TAG_ENDS)?;
-        Ok(Field {
-            name,
-            value: self.value,
-        })
-    }
 
     pub fn is_time(&self) -> bool
         ensures { result ≡ bytes_eq (field_spelled self.now).name time_word }

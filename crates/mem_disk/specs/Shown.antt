@@ -1,5 +1,5 @@
 -- That a disk in memory leaves no less than what a crash may leave.
-use Rattle.std.specs.Prelude.{◌≡◌, ◌⊎◌, ℕ, ◌+◌, ◌-◌, ◌^◌, ◌<◌, Bool, true, false, List, None}
+use Rattle.std.specs.Prelude.{◌≡◌, ◌⊎◌, ℕ, ◌-◌, ◌^◌, ◌<◌, Bool, true, false, List, None}
 use Rattle.std.specs.FinMap.{get}
 use Rattle.shard_disk.specs.Crash.{Crashes, Follows, Same}
 use Rattle.shard_disk.specs.Directory.{Directory, Appears, ChangesAt}

@@ -1,4 +1,5 @@
 pub mod ChoiceLemmas
+pub mod NestLemmas
 pub mod OrderLemmas
 pub mod OverlayLemmas
 pub mod StepLemmas

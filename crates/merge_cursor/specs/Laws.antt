@@ -1,5 +1,5 @@
 -- Laws of overlays and of steps.
-use Rattle.std.specs.Prelude.{◌≡◌, ◌↔◌, ℕ, ℤ, Bool, true, false, List, [], ◌∷◌, map, filter, reverse, All, IsNone}
+use Rattle.std.specs.Prelude.{◌≡◌, ◌↔◌, ℕ, ℤ, Bool, true, false, List, [], ◌∷◌, ◌++◌, map, filter, reverse, All, IsNone}
 use Rattle.tsdb_types.specs.declared.value.Value.{Value}
 use Rattle.point_model.specs.Rows.{Row}
 use Rattle.merge_cursor.specs.Overlays.{AreInOrder, IsOverlay, overlay}
@@ -21,3 +21,8 @@ pub record StepsGiveOverlay : Type 0 where
   pub next : (descending : Bool) (sources : List (List Row)) (source : ℕ) (time : ℤ) (value : Value) → All (AreInOrder descending) sources
       → IsNext descending (heads_of sources) source time value → overlay descending sources ≡ (time, value) ∷ overlay descending (advanced time sources)
   pub left : (descending : Bool) (sources : List (List Row)) (time : ℤ) → All (AreInOrder descending) sources → All (AreInOrder descending) (advanced time sources)
+
+-- Sources that stand in a row may give place to their overlay.
+abbrev pub OverlaysNest : Type 0
+OverlaysNest =
+    (descending : Bool) (newer some older : List (List Row)) → overlay descending (newer ++ (some ++ older)) ≡ overlay descending (newer ++ (overlay descending some ∷ older))

@@ -5,7 +5,7 @@
 mod laws;
 mod overlay;
 
-pub use laws::{one_overlay, steps_give_overlay};
+pub use laws::{one_overlay, overlays_nest, steps_give_overlay};
 pub use overlay::Overlay;
 
 #[cfg(test)]

@@ -1,22 +1,23 @@
 -- What the calls of a cache make of its runs.
-use Rattle.std.proofs.Common.{◌≡◌, ℕ, ℤ, Bool, true, false, cond, not, ◌&&◌, List, [], ◌∷◌, ◌++◌, length, take, drop, Option, Some, None, nat_eq, refl, sym, ap, ◌∙◌, subst, if◌then◌else◌}
+use Rattle.std.proofs.Common.{◌≡◌, ℕ, ℤ, Bool, true, false, cond, not, ◌&&◌, List, [], ◌∷◌, ◌++◌, length, take, drop, Option, Some, None, nat_eq, refl, sym, ap, ◌∙◌, subst, arith, if◌then◌else◌}
 use Rattle.std.specs.List.{AllByRecursion}
 use Rattle.std.specs.Cmp.Lexicographic.{pointwise}
 use Rattle.std.specs.Ordering.{int_eq}
 use Rattle.std.proofs.lemmas.List.{append-nil}
+use Rattle.std.proofs.lemmas.List.Sums.{sum_by-append}
 use Rattle.std.proofs.Math.Seq.{take-append_seam, drop-append_seam}
 use Rattle.tsdb_types.specs.declared.point.Point.{Point}
 use Rattle.tsdb_types.specs.declared.value.Value.{Value}
 use Rattle.point_model.specs.Rows.{Row}
 use Rattle.point_cache.specs.declared.key_points.KeyRun.{KeyRun}
 use Rattle.point_cache.specs.Cache.{HasRoom}
-use Rattle.point_cache.specs.Cached.{IsRun, is_within, later, latest, points_at, rows_outside, value_after, value_at}
+use Rattle.point_cache.specs.Cached.{IsRun, count, is_within, later, latest, points_at, rows_outside, value_after, value_at}
 use Rattle.point_cache.specs.Calls.{value_without}
 use Rattle.point_cache.specs.Leaving.{points_without}
-use Rattle.point_cache.specs.Staged.{Entry, AreSettled, WillHave, lives, nexts, plain, staged_at}
+use Rattle.point_cache.specs.Staged.{Entry, AreSettled, WillHave, lives, next_count, nexts, plain, staged_at}
 use Rattle.point_cache.specs.Steps.{Grows, Settles, WillSet}
 use Rattle.point_cache.proofs.LatestLemmas.{later-none, same_time, value_of}
-use Rattle.point_cache.proofs.PlainLemmas.{next_plain, points_behind, points_front, points_lives, points_nexts, will_have}
+use Rattle.point_cache.proofs.PlainLemmas.{count_plain_next, next_plain, points_behind, points_front, points_lives, points_nexts, will_have}
 
 -- ---- staging
 
@@ -31,6 +32,13 @@ has_room points old mid new is each grows sets settles settled = record {
       settles.values key t ∙ sets.values key t ∙ ap (λ (rows : List Row). value_after points key t (latest rows t)) live;
   some = settles.some (sets.some (subst WillHave (sym is) (will_have (lives old) each)));
   settled = settled;
+  fewer =
+      let less = settles.fewer in
+      let more = sets.counted in
+      let was : next_count old ≡ count (lives old) = ap next_count is ∙ count_plain_next (lives old) in
+      let parts = sum_by-append (λ (x : KeyRun). length x.points) (lives old) grows.more in
+      let now : count (lives new) ≡ count (lives old ++ grows.more) = ap count (settles.lives ∙ grows.lives) in
+      omega (arith, less, more, was, parts, now);
 }
 
 -- ---- the values of a committed batch, and of points that are taken away

@@ -1,5 +1,5 @@
 -- Entries: one that is changed, one that is added, and the sums over them.
-use Rattle.std.proofs.Common.{◌≡◌, ℕ, zero, suc, ◌+◌, ◌<◌, ◌≤◌, Bool, true, false, cond, List, [], ◌∷◌, ◌++◌, map, length, sum_by, position, Option, Some, None, slice_get, get_or, nat_eq, ◌⊎◌, inl, inr, length-append, refl, sym, ap, ◌∙◌, subst, ⊎_elim, arith, Vec, Global, if◌then◌else◌}
+use Rattle.std.proofs.Common.{◌≡◌, ◌≢◌, ℕ, zero, suc, ◌+◌, ◌<◌, ◌≤◌, Bool, true, false, cond, List, [], ◌∷◌, ◌++◌, map, length, take, drop, sum_by, position, Option, Some, None, slice_get, get_or, nat_eq, ◌⊎◌, inl, inr, length-append, refl, sym, ap, ◌∙◌, subst, ⊎_elim, arith, Vec, Global, if◌then◌else◌}
 use Rattle.std.specs.List.{AllByRecursion, IsDistinct}
 use Rattle.std.specs.Map.{keys_of, lookup}
 use Rattle.std.specs.Cmp.Lexicographic.{pointwise}
@@ -10,7 +10,9 @@ use Rattle.std.proofs.lemmas.List.Sums.{sum_by-cons, sum_by_push}
 use Rattle.indexmap.specs.Layout.{set_value_at}
 use Rattle.point_model.specs.Rows.{Row}
 use Rattle.point_cache.specs.declared.key_points.KeyRun.{KeyRun}
-use Rattle.point_cache.specs.Staged.{Staged, Entry, Slot, Among, IsCovered, IsStaging, KeysApart, entries_of, lives, nexts, no_rows, staged_at}
+use Rattle.point_cache.specs.Staged.{Staged, Entry, Slot, Among, AreCovered, IsCovered, IsStaging, KeysApart, entries_of, lives, nexts, no_rows, staged_at}
+use Rattle.tsdb_types.specs.Keys.{key_of, mark}
+use Rattle.std.proofs.lemmas.List.{take-append-drop}
 use Rattle.point_cache.specs.Steps.{AddsKey, StagesAt}
 
 -- ---- equal keys
@@ -20,6 +22,14 @@ same_key xs ys e = (bytes_eq-Decides xs ys).0 e
 
 pub key_same : (xs ys : List ℕ) → xs ≡ ys → pointwise nat_eq xs ys ≡ true
 key_same xs ys e = (bytes_eq-Decides xs ys).1 e
+
+-- a key that was cut at its series and at the mark
+pub key_parts : (key series behind field own : List ℕ) → pointwise nat_eq (take (length series) key) series ≡ true → behind ≡ drop (length series) key
+    → pointwise nat_eq (take 4 behind) mark ≡ true → field ≡ drop 4 behind → field ≡ own → key ≡ key_of series own
+key_parts key series behind field own first cut second cut' is =
+    let inner : mark ++ own ≡ drop (length series) key =
+    (λ i. (sym (same_key (take 4 behind) mark second)) i ++ ((sym is) ∙ cut') i) ∙ take-append-drop 4 behind ∙ cut in
+    sym (take-append-drop (length series) key) ∙ (λ i. same_key (take (length series) key) series first i ++ (sym inner) i)
 
 -- ---- as the map holds them
 
@@ -161,12 +171,24 @@ among-last (y ∷ xs) x = inr (among-last xs x)
 
 -- ---- what holds of runs
 
-pub staging_touch : (es : List Entry) (touched : List ℕ) (x a b : ℕ) → IsStaging es touched a b → IsStaging es (touched ++ x ∷ []) a b
-staging_touch es touched x a b s = record {
-  each = λ p e h. let c = s.each p e h in record { ascending = c.ascending; covered = ⊎_elim (λ (n : e.1.next ≡ e.1.live). inl n) (λ (m : Among touched p). inr (among-front touched x p m)) c.covered };
+pub staging_touch : (es : List Entry) (touched more : List ℕ) (a b : ℕ) → ((p : ℕ) → Among touched p → Among more p) → IsStaging es touched a b → IsStaging es more a b
+staging_touch es touched more a b kept s = record {
+  each = λ p e h. let c = s.each p e h in record { ascending = c.ascending; covered = ⊎_elim (λ (n : e.1.next ≡ e.1.live). inl n) (λ (m : Among touched p). inr (kept p m)) c.covered };
   counted = s.counted;
   next_counted = s.next_counted;
 }
+
+-- a place where points are staged is touched
+pub staged_touched : (es : List Entry) (touched : List ℕ) (p : ℕ) → AreCovered touched es → (e : Entry) × (slice_get es p ≡ Some e) × (e.1.next ≢ e.1.live) → Among touched p
+staged_touched es touched p covered there = ⊎_elim (λ (n : there.0.1.next ≡ there.0.1.live). absurd (there.2 n)) (λ (m : Among touched p). m) (covered p there.0 there.1).covered
+
+pub among-push : (touched more : List ℕ) (x : ℕ) → more ≡ touched ++ x ∷ [] → (p : ℕ) → Among touched p → Among more p
+among-push touched more x is p a = subst (λ (l : List ℕ). Among l p) (sym is) (among-front touched x p a)
+
+pub among-at : (touched : List ℕ) (at : ℕ) → at < length touched → Among touched (get_or touched at 0)
+among-at [] at h = absurd (omega arith)
+among-at (x ∷ xs) zero h = inl refl
+among-at (x ∷ xs) (suc at) h = inr (among-at xs at (omega arith))
 
 staging_add : (es : List Entry) (touched : List ℕ) (key : List ℕ) (a b : ℕ) → IsStaging es touched a b → IsStaging (es ++ (key, no_rows) ∷ []) touched a b
 staging_add es touched key a b s = record {

@@ -27,7 +27,7 @@ count_plain (r ∷ rs) =
     let two = sum_by-cons (λ (x : KeyRun). length x.points) r rs in
     omega (arith, one, two)
 
-count_plain_next : (rs : List KeyRun) → sum_by (λ (e : Entry). length e.1.next) (plain rs) ≡ count rs
+pub count_plain_next : (rs : List KeyRun) → sum_by (λ (e : Entry). length e.1.next) (plain rs) ≡ count rs
 count_plain_next [] = refl
 count_plain_next (r ∷ rs) =
     let rest = count_plain_next rs in

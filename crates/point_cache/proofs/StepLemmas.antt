@@ -1,8 +1,9 @@
 -- Steps over the places that a batch touches, and over its points.
-use Rattle.std.proofs.Common.{◌≡◌, ◌≢◌, ℕ, zero, suc, ◌+◌, ◌<◌, ◌≤◌, ℤ, Bool, true, false, ◌&&◌, List, [], ◌∷◌, ◌++◌, length, drop, get_or, sum_by, Option, Some, None, slice_get, nat_eq, ◌⊎◌, inl, inr, refl, sym, ap, ◌∙◌, subst, ⊎_elim, arith, append-nil, append_assoc, if◌then◌else◌}
+use Rattle.std.proofs.Common.{◌≡◌, ◌≢◌, ℕ, zero, suc, ◌+◌, ◌<◌, ◌≤◌, ℤ, Bool, true, false, ◌&&◌, List, [], ◌∷◌, ◌++◌, length, drop, get_or, sum_by, Option, Some, None, slice_get, nat_eq, ◌⊎◌, inl, inr, refl, sym, ap, ◌∙◌, subst, ⊎_elim, arith, append-nil, append_assoc, length-append, if◌then◌else◌}
 use Rattle.std.specs.List.{AllByRecursion}
 use Rattle.std.specs.Cmp.Lexicographic.{pointwise}
 use Rattle.std.specs.Ordering.{int_eq}
+use Rattle.std.proofs.lemmas.List.Sums.{sum_by_push}
 use Rattle.std.proofs.Math.Seq.{drop-cons}
 use Rattle.indexmap.specs.Layout.{set_value_at}
 use Rattle.tombstones.proofs.RangeLemmas.{all-append}
@@ -11,7 +12,7 @@ use Rattle.tsdb_types.specs.declared.value.Value.{Value}
 use Rattle.point_model.specs.Rows.{Row}
 use Rattle.point_cache.specs.declared.key_points.KeyRun.{KeyRun}
 use Rattle.point_cache.specs.Cached.{AreAscending, latest, is_at, value_after}
-use Rattle.point_cache.specs.Staged.{Staged, Entry, Among, AreCovered, AreSettled, IsCovered, IsStaging, WillHave, lives, next_value, nexts, no_rows, plain, staged_at}
+use Rattle.point_cache.specs.Staged.{Staged, Entry, Among, AreCovered, AreSettled, IsCovered, IsStaging, WillHave, lives, next_value, nexts, no_rows, plain, staged_at, next_count}
 use Rattle.point_cache.specs.Steps.{AddsKey, ChangesAt, FindsKey, Grows, HasKey, Settles, SettlesAt, StagesAt, WillSet, commit_of, discard_of, point_key}
 use Rattle.point_cache.proofs.EntryLemmas.{all-set, all_entries, all_entry, lives-set, nexts-set, push_last, set-last, set_entry, set_same, staged_at-add, staged_at-place, staged_at-set, sum-set}
 use Rattle.point_cache.proofs.LatestLemmas.{latest_more}
@@ -100,13 +101,14 @@ plain_lives (x ∷ es) a = λ i. (x.0, record { live = x.1.live; next = (sym a.0
 -- ---- settling
 
 pub settles_none : (es : List Entry) → Settles es es
-settles_none es = record { lives = refl; values = λ key t. refl; some = λ s. s }
+settles_none es = record { lives = refl; values = λ key t. refl; some = λ s. s; fewer = omega arith }
 
 pub settles_then : (a b c : List Entry) → Settles a b → Settles b c → Settles a c
 settles_then a b c first second = record {
   lives = second.lives ∙ first.lives;
   values = λ key t. second.values key t ∙ first.values key t;
   some = λ s. second.some (first.some s);
+  fewer = let one = first.fewer in let two = second.fewer in omega (arith, one, two);
 }
 
 value_same : (b : Bool) (x y : Staged) (t : ℤ) → (b ≡ true → latest x.next t ≡ latest y.next t) → latest (if b then x else y).next t ≡ latest y.next t
@@ -125,6 +127,7 @@ settles_at p old new (inr at) =
           ap (λ (s : Staged). latest s.next t) (staged_at-set old p entry w at.2 at.5 key)
           ∙ value_same (pointwise nat_eq key entry.0) w (staged_at old key) t (λ is. run.values t ∙ ap (λ (s : Staged). latest s.next t) (sym (staged_at-place old p entry at.2 at.5 key is)));
       some = λ some. all-set (λ (y : Entry). y.1.next ≢ []) old p entry w at.2 (run.some (all_entry (λ (y : Entry). y.1.next ≢ []) old p entry at.2 some)) some;
+      fewer = let sum = sum-set (λ (x : Staged). length x.next) old p entry w at.2 in let short = run.fewer in omega (arith, sum, short);
     })
 
 pub staging_settles : (p : ℕ) (old new : List Entry) (touched : List ℕ) (a b : ℕ) → Among touched p → SettlesAt p old new → b ≡ sum_by (λ (e : Entry). length e.1.next) new → (total : ℕ) → IsStaging old touched a total → IsStaging new touched a b
@@ -232,6 +235,24 @@ found_value : (key : List ℕ) (p : ℕ) (old mid : List Entry) → FindsKey key
 found_value key p old mid (inl there) k t = ap (λ (es : List Entry). next_value es k t) there.0
 found_value key p old mid (inr added) k t = ap (λ (es : List Entry). next_value es k t) added.0 ∙ ap (λ (s : Staged). latest s.next t) (staged_at-add old key k)
 
+found_count : (key : List ℕ) (p : ℕ) (old mid : List Entry) → FindsKey key p old mid → next_count mid ≡ next_count old
+found_count key p old mid (inl there) = ap next_count there.0
+found_count key p old mid (inr added) =
+    let more = sum_by_push (λ (x : Entry). length x.1.next) old (key, no_rows) in
+    let is : next_count (old ++ (key, no_rows) ∷ []) ≡ next_count old = omega (arith, more) in
+    ap next_count added.0 ∙ is
+
+put_count : (p : ℕ) (row : Row) (old new : List Entry) → StagesAt p row old new → next_count new ≡ next_count old + 1
+put_count p row old new put =
+    let w : Staged = record { live = put.entry.1.live; next = put.entry.1.next ++ row ∷ [] } in
+    let sum = sum-set (λ (x : Staged). length x.next) old p put.entry w put.was in
+    let more = length-append put.entry.1.next (row ∷ []) in
+    let is : next_count (set_value_at old p w) ≡ next_count old + 1 = omega (arith, sum, more) in
+    ap next_count put.is ∙ is
+
+pub sets_none : (es : List Entry) → WillSet [] es es
+sets_none es = record { values = λ key t. refl; some = λ s. s; counted = omega arith }
+
 -- one point more is set
 pub sets_more : (points : List Point) (point : Point) (p : ℕ) (first old mid new : List Entry) → FindsKey (point_key point) p old mid → StagesAt p (point.cell.time, point.value) mid new → WillSet points first old → WillSet (points ++ point ∷ []) first new
 sets_more points point p first old mid new found put sets = record {
@@ -240,6 +261,12 @@ sets_more points point p first old mid new found put sets = record {
       ∙ ap (λ (v : Option Value). if is_at key t point then Some point.value else v) (found_value (point_key point) p old mid found key t ∙ sets.values key t)
       ∙ sym (value_after-push points point key t (next_value first key t));
   some = λ some. put_some p (point_key point) (point.cell.time, point.value) old mid new found put (sets.some some);
+  counted =
+      let one = put_count p (point.cell.time, point.value) mid new put in
+      let two = found_count (point_key point) p old mid found in
+      let was = sets.counted in
+      let long = length-append points (point ∷ []) in
+      omega (arith, one, two, was, long);
 }
 
 pub has_put : (p : ℕ) (key : List ℕ) (row : Row) (old new : List Entry) → HasKey old p key → StagesAt p row old new → HasKey new p key

@@ -1,16 +1,17 @@
 -- What holds of the fields of a cache?
-use Rattle.std.specs.Prelude.{◌≡◌, ℕ, ℤ, ◌≤◌, List, [], take, drop, length, Option, None, Some}
+use Rattle.std.specs.Prelude.{◌≡◌, ℕ, ◌+◌, ℤ, ◌≤◌, List, [], take, drop, length, Option, None, Some}
 use Rattle.std.specs.List.{AllByRecursion}
 use Rattle.tsdb_types.specs.declared.point.Point.{Point}
 use Rattle.point_cache.specs.declared.key_points.KeyRun.{KeyRun}
 use Rattle.point_cache.specs.Cached.{IsRun, KeysAscend, count, latest, value_after}
-use Rattle.point_cache.specs.Staged.{Entry, Staging, AreSettled, WillHave, lives, next_value, plain, staged_at}
+use Rattle.point_cache.specs.Staged.{Entry, Staging, AreSettled, WillHave, lives, next_count, next_value, plain, staged_at}
 
--- what is staged sets the points, in order and settled
+-- what is staged sets the points, in order and settled, and is at most so many points more
 pub record HasRoom (points : List Point) (entries : List Entry) : Type 0 where
   pub values : (key : List ℕ) (time : ℤ) → next_value entries key time ≡ value_after points key time (latest (staged_at entries key).live time)
   pub some : WillHave entries
   pub settled : AreSettled entries
+  pub fewer : next_count entries ≤ count (lives entries) + length points
 
 -- nothing is staged, or what the batch wants
 abbrev pub RoomFor : Option (List Point) → ℕ → List Entry → Type 0

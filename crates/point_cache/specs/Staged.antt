@@ -75,6 +75,10 @@ pub record IsStaging (entries : List Entry) (touched : List ℕ) (points next_po
   pub counted : points ≡ sum_by (λ entry. length entry.1.live) entries
   pub next_counted : next_points ≡ sum_by (λ entry. length entry.1.next) entries
 
+-- how many points there will be
+abbrev pub next_count : List Entry → ℕ
+next_count entries = sum_by (λ entry. length entry.1.next) entries
+
 -- nothing is staged
 abbrev pub IsUnstaged : List Entry → Type 0
 IsUnstaged entries = AllByRecursion (λ entry. entry.1.next ≡ entry.1.live) entries

@@ -1,5 +1,5 @@
 -- What do the steps of a batch change, from point to point and from place to place?
-use Rattle.std.specs.Prelude.{◌≡◌, ◌≢◌, ℕ, ◌+◌, ℤ, List, [], ◌∷◌, ◌++◌, ◌⊎◌, length, slice_get, None, Some}
+use Rattle.std.specs.Prelude.{◌≡◌, ◌≢◌, ℕ, ◌+◌, ◌≤◌, ℤ, List, [], ◌∷◌, ◌++◌, ◌⊎◌, length, slice_get, None, Some}
 use Rattle.std.specs.List.{AllByRecursion}
 use Rattle.indexmap.specs.Layout.{set_value_at}
 use Rattle.point_model.specs.Rows.{Row}
@@ -7,7 +7,7 @@ use Rattle.tsdb_types.specs.Keys.{key_of}
 use Rattle.tsdb_types.specs.declared.point.Point.{Point}
 use Rattle.point_cache.specs.declared.key_points.KeyRun.{KeyRun}
 use Rattle.point_cache.specs.Cached.{latest, value_after}
-use Rattle.point_cache.specs.Staged.{Staged, no_rows, Entry, lives, KeysApart, Among, Staging, WillHave, next_value}
+use Rattle.point_cache.specs.Staged.{Staged, no_rows, Entry, lives, KeysApart, Among, Staging, WillHave, next_count, next_value}
 
 -- the place has this key
 abbrev pub HasKey : List Entry → ℕ → List ℕ → Type 0
@@ -46,22 +46,25 @@ pub record StagesAt (place : ℕ) (row : Row) (old new : List Entry) : Type 0 wh
   pub is : new ≡ set_value_at old place (record { live = entry.1.live; next = entry.1.next ++ row ∷ [] })
   pub apart : KeysApart old
 
--- the points will be set in order, and each key will have one where each was to have one
+-- the points will be set in order, each key will have one where each was to have one, and there will be so many more
 pub record WillSet (points : List Point) (old new : List Entry) : Type 0 where
   pub values : (key : List ℕ) (time : ℤ) → next_value new key time ≡ value_after points key time (next_value old key time)
   pub some : WillHave old → WillHave new
+  pub counted : next_count new ≡ next_count old + length points
 
--- the entries hold the same, and will hold the same
+-- the entries hold the same, and will hold the same, in no more points
 pub record Settles (old new : List Entry) : Type 0 where
   pub lives : lives new ≡ lives old
   pub values : (key : List ℕ) (time : ℤ) → next_value new key time ≡ next_value old key time
   pub some : WillHave old → WillHave new
+  pub fewer : next_count new ≤ next_count old
 
 -- the same of one entry
 pub record SettlesRun (old new : Staged) : Type 0 where
   pub live : new.live ≡ old.live
   pub values : (time : ℤ) → latest new.next time ≡ latest old.next time
   pub some : old.next ≢ [] → new.next ≢ []
+  pub fewer : length new.next ≤ length old.next
 
 -- the same of the entry at a place, where there is one
 abbrev pub SettlesAt : ℕ → List Entry → List Entry → Type 0

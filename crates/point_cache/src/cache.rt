@@ -1,8 +1,10 @@
 // The cache.
 use crate::freezing::{freeze, stage_batch};
 use crate::key_points::KeyPoints;
+use crate::rows::copy_within;
 use crate::runs::Runs;
 use std::alloc::{AllocError, Global};
+use std::hash::RandomState;
 use std::marker::Model;
 use std::snapshot::Snapshot;
 use std::sync::Arc;
@@ -50,16 +52,17 @@ impl PointCache {
     ghost use Rattle.std.specs.List.{AllByRecursion};
     ghost use Rattle.point_cache.specs.declared.key_points.KeyPoints.{KeyPoints};
     ghost use Rattle.point_cache.specs.declared.key_points.KeyRun.{KeyRun};
-    ghost use Rattle.point_cache.specs.Cached.{AreRuns, IsRun, KeysAscend, count, points_at, rows_within};
+    ghost use Rattle.point_cache.specs.Cached.{AreAscending, AreRuns, IsRun, KeysAscend, count, points_at, rows_within};
     ghost use Rattle.point_cache.specs.Calls.{SetsPoints, TakesAway, Freezes};
 
-    /// A cache without points, and without a snapshot.
-    pub fn new(alloc: Global) -> PointCache
+    /// A cache without points, and without a snapshot. Its keys are hashed by a seed of their own, so that nobody can choose
+    /// keys of one hash.
+    pub fn new(alloc: Global, hashing: RandomState) -> PointCache
         ensures { result ≡ record { runs = []; room = None; snapshot = None; tombs = [] } }
     {
         PointCache {
             alloc,
-            runs: Runs::new(alloc),
+            runs: Runs::new(alloc, hashing),
             keys: 0,
             room: None,
             snapshot: None,
@@ -145,7 +148,15 @@ impl PointCache {
     ) -> Result<Vec<(Time, Value)>, AllocError>
         ensures { IfOk result (λ copy. copy.items ≡ rows_within from to (points_at self.now.runs key.now)) }
     {
-        self.runs.within(key, from, to)
+        copy_within(self.alloc, self.rows_of(key), from, to)
+    }
+
+    /// The points of a key, by ascending time; none where it has none. Those of the snapshot are not among them.
+    pub fn rows_of(&self, key: &[u8]) -> &[(Time, Value)]
+        ensures points { result.now ≡ points_at self.now.runs key.now }
+        ensures ascending { AreAscending result.now }
+    {
+        self.runs.rows_of(key)
     }
 
     /// How many keys have points.

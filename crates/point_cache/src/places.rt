@@ -1,5 +1,5 @@
 // Places in a table of runs.
-ghost use Rattle.std.specs.Prelude.{◌≡◌, ◌<◌, ◌≤◌, ℕ, List, ◌+◌, length, sum_by, slice_get, Some, None, IsTrue, OnOk, OnErr, IfOk};
+ghost use Rattle.std.specs.Prelude.{◌≡◌, ◌<◌, ◌≤◌, ℕ, List, ◌+◌, length, sum_by, slice_get, Some, None, IsTrue, IfSome, ◌≢◌, OnOk, OnErr, IfOk};
 ghost use Rattle.std.specs.Prelude.{nat_eq};
 ghost use Rattle.std.specs.Cmp.Lexicographic.{pointwise};
 ghost use Rattle.std.specs.declared.vec.Vec.{Vec};
@@ -7,11 +7,10 @@ ghost use Rattle.std.specs.declared.alloc.Global.{Global};
 ghost use Rattle.indexmap.specs.IndexMap.{get_by};
 ghost use Rattle.tsdb_types.specs.Keys.{key_of};
 ghost use Rattle.point_cache.specs.Cached.{AreAscending};
-ghost use Rattle.point_cache.specs.Staged.{Entry, AreCovered, AreSettled, IsStaging, entries_of, lives, nexts, plain};
-ghost use Rattle.point_cache.specs.Steps.{AddsKey, GoesOn, FindsKey, ChangesAt, commit_of, discard_of, Settles, SettlesAt, SettlesRun, StagesAt};
+ghost use Rattle.point_cache.specs.Staged.{Among, Entry, AreCovered, AreSettled, IsStaging, entries_of, lives, nexts, plain};
+ghost use Rattle.point_cache.specs.Steps.{AddsKey, HasKey, GoesOn, FindsKey, ChangesAt, commit_of, discard_of, Settles, SettlesAt, SettlesRun, StagesAt};
 
-use crate::run::Run;
-use indexmap::IndexMap;
+use crate::run::{Run, RunMap};
 use std::alloc::{AllocError, Global};
 use tsdb_types::{Cell, Name, Point, SeriesKey, Time, Value};
 
@@ -33,11 +32,7 @@ pub(crate) fn write_key(
 }
 
 // The place of a key; one that isn't there is added without points.
-pub(crate) fn place_of(
-    alloc: Global,
-    map: &mut IndexMap<Vec<u8>, Run>,
-    key: &[u8],
-) -> Result<usize, AllocError>
+pub(crate) fn place_of(alloc: Global, map: &mut RunMap, key: &[u8]) -> Result<usize, AllocError>
     ensures adds { AddsKey key.now (entries_of map.old.entries) (entries_of map.new.entries) }
     ensures found { IfOk result (λ place. FindsKey key.now place (entries_of map.old.entries) (entries_of map.new.entries)) }
 {
@@ -48,11 +43,7 @@ pub(crate) fn place_of(
 }
 
 // Adds a key that isn't there, without points.
-pub(crate) fn add_key(
-    alloc: Global,
-    map: &mut IndexMap<Vec<u8>, Run>,
-    key: &[u8],
-) -> Result<usize, AllocError>
+pub(crate) fn add_key(alloc: Global, map: &mut RunMap, key: &[u8]) -> Result<usize, AllocError>
     requires { get_by (λ (k : Vec ℕ Global). pointwise nat_eq key.now k.items) map.old ≡ None }
     ensures adds { AddsKey key.now (entries_of map.old.entries) (entries_of map.new.entries) }
     ensures found { IfOk result (λ place. FindsKey key.now place (entries_of map.old.entries) (entries_of map.new.entries)) }
@@ -63,9 +54,70 @@ pub(crate) fn add_key(
     Ok(place)
 }
 
+// Notes a place as touched, where a batch staged nothing there before.
+pub(crate) fn touch(map: &RunMap, touched: &mut Vec<usize>, place: usize) -> Result<(), AllocError>
+    requires { AreCovered touched.old.items (entries_of map.now.entries) }
+    ensures touched { OnOk result (Among touched.new.items place) }
+    ensures kept { (other : ℕ) → Among touched.old.items other → Among touched.new.items other }
+{
+    if is_staged_at(map, place) {
+        return Ok(());
+    }
+    touched.push(place)?;
+    Ok(())
+}
+
+// Whether points are staged at a place.
+fn is_staged_at(map: &RunMap, place: usize) -> bool
+    ensures { IsTrue result → (entry : Entry) × (slice_get (entries_of map.now.entries) place ≡ Some entry) × (entry.1.next ≢ entry.1.live) }
+{
+    match map.get_index(place) {
+        Some((_, run)) => run.is_staged(),
+        None => false,
+    }
+}
+
+// The touched place at a place of the list, where it is that of a cell's key.
+pub(crate) fn follows(map: &RunMap, touched: &[usize], at: usize, cell: &Cell) -> Option<usize>
+    ensures key { IfSome result (λ place. HasKey (entries_of map.now.entries) place (key_of cell.now.series cell.now.field)) }
+    ensures touched { IfSome result (Among touched.now) }
+{
+    if at >= touched.len() {
+        return None;
+    }
+    let place = touched[at];
+    if is_key_at(map, place, cell) {
+        return Some(place);
+    }
+    None
+}
+
+// Whether a place has the key of a cell.
+fn is_key_at(map: &RunMap, place: usize, cell: &Cell) -> bool
+    ensures { IsTrue result → HasKey (entries_of map.now.entries) place (key_of cell.now.series cell.now.field) }
+{
+    match map.get_index(place) {
+        Some((key, _)) => is_key_of(key.as_slice(), cell),
+        None => false,
+    }
+}
+
+// Whether these bytes are the composite key of a cell.
+fn is_key_of(key: &[u8], cell: &Cell) -> bool
+    ensures { IsTrue result → key.now ≡ key_of cell.now.series cell.now.field }
+{
+    let Some(behind) = key.strip_prefix(cell.series.text().as_bytes()) else {
+        return false;
+    };
+    let Some(field) = behind.strip_prefix(MARK) else {
+        return false;
+    };
+    field == cell.field.as_str().as_bytes()
+}
+
 // Stages a point at a place.
 pub(crate) fn put_at(
-    map: &mut IndexMap<Vec<u8>, Run>,
+    map: &mut RunMap,
     place: usize,
     time: Time,
     value: Value,
@@ -100,7 +152,7 @@ fn is_same_key(one: &Cell, other: &Cell) -> bool
 
 // Brings what is staged at these places into the order of time, and counts the points that there will be.
 pub(crate) fn settle_all(
-    map: &mut IndexMap<Vec<u8>, Run>,
+    map: &mut RunMap,
     touched: &[usize],
     scratch: &mut Vec<(Time, Value)>,
     total: &mut u64,
@@ -117,7 +169,7 @@ pub(crate) fn settle_all(
 }
 
 fn settle_at(
-    map: &mut IndexMap<Vec<u8>, Run>,
+    map: &mut RunMap,
     place: usize,
     scratch: &mut Vec<(Time, Value)>,
     total: &mut u64,
@@ -150,7 +202,7 @@ fn settle_run(
 }
 
 // Commits what is staged at these places.
-pub(crate) fn commit_all(map: &mut IndexMap<Vec<u8>, Run>, touched: &[usize])
+pub(crate) fn commit_all(map: &mut RunMap, touched: &[usize])
     requires settled { AreSettled (entries_of map.old.entries) }
     requires covered { AreCovered touched.now (entries_of map.old.entries) }
     ensures { entries_of map.new.entries ≡ plain (nexts (entries_of map.old.entries)) }
@@ -160,7 +212,7 @@ pub(crate) fn commit_all(map: &mut IndexMap<Vec<u8>, Run>, touched: &[usize])
     }
 }
 
-fn commit_at(map: &mut IndexMap<Vec<u8>, Run>, place: usize)
+fn commit_at(map: &mut RunMap, place: usize)
     requires { AreSettled (entries_of map.old.entries) }
     ensures { ChangesAt commit_of place (entries_of map.old.entries) (entries_of map.new.entries) }
 {
@@ -171,7 +223,7 @@ fn commit_at(map: &mut IndexMap<Vec<u8>, Run>, place: usize)
 }
 
 // Discards what is staged at these places.
-pub(crate) fn discard_all(map: &mut IndexMap<Vec<u8>, Run>, touched: &[usize])
+pub(crate) fn discard_all(map: &mut RunMap, touched: &[usize])
     requires { AreCovered touched.now (entries_of map.old.entries) }
     ensures { entries_of map.new.entries ≡ plain (lives (entries_of map.old.entries)) }
 {
@@ -180,7 +232,7 @@ pub(crate) fn discard_all(map: &mut IndexMap<Vec<u8>, Run>, touched: &[usize])
     }
 }
 
-fn discard_at(map: &mut IndexMap<Vec<u8>, Run>, place: usize)
+fn discard_at(map: &mut RunMap, place: usize)
     ensures { ChangesAt discard_of place (entries_of map.old.entries) (entries_of map.new.entries) }
 {
     match map.get_index_mut(place) {

@@ -4,7 +4,7 @@ ghost use Rattle.std.specs.List.{AllByRecursion};
 ghost use Rattle.point_cache.specs.Cached.{latest, AreAscending, rows_within, rows_outside};
 ghost use Rattle.point_cache.specs.Sorted.{first_at, is_later, AreRising, AppendsFirsts};
 
-use std::alloc::AllocError;
+use std::alloc::{AllocError, Global};
 use tsdb_types::{Time, Value};
 
 // The points up to the cut, and those that are staged.
@@ -116,6 +116,20 @@ pub(crate) fn range(points: &[(Time, Value)], from: Time, to: Time) -> (usize, u
     } else {
         (first, first)
     }
+}
+
+// A copy of the points from one time to another.
+pub(crate) fn copy_within(
+    alloc: Global,
+    points: &[(Time, Value)],
+    from: Time,
+    to: Time,
+) -> Result<Vec<(Time, Value)>, AllocError>
+    requires { AreAscending points.now }
+    ensures { IfOk result (λ copy. copy.items ≡ rows_within from to points.now) }
+{
+    let (first, end) = range(points, from, to);
+    Vec::from_slice(alloc, &points[first..end])
 }
 
 // The points of both lists, sorted by time, later ones before earlier ones with one time.

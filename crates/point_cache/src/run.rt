@@ -1,8 +1,13 @@
 // The points of one key, and behind them what a batch will make of them.
 use crate::rows::{append_firsts, before, cut_out, earliest, gather, is_in_order, parts, range};
+use indexmap::IndexMap;
 use std::alloc::{AllocError, Global};
+use std::hash::RandomState;
 use std::marker::Model;
 use tsdb_types::{Time, Value};
+
+/// Runs by their keys.
+pub(crate) type RunMap = IndexMap<Vec<u8>, Run, RandomState>;
 
 /// The first `live` points are those of the key. What stands behind them is staged: it takes the place of the live ones
 /// from `cut` on. Points of a batch that come in the order of time are staged where they will stay.
@@ -26,8 +31,8 @@ impl Model for Run {
 }
 
 impl Run {
-    ghost use Rattle.std.specs.Prelude.{◌≡◌, ℤ, ◌≤◌, ◌∷◌, [], ◌++◌, length, OnOk, OnErr, IfOk};
-    ghost use Rattle.point_cache.specs.Cached.{latest, AreAscending, rows_within, rows_outside};
+    ghost use Rattle.std.specs.Prelude.{◌≡◌, ◌≢◌, ℤ, ◌≤◌, ◌∷◌, [], ◌++◌, length, IsTrue, OnOk, OnErr, IfOk};
+    ghost use Rattle.point_cache.specs.Cached.{latest, AreAscending, rows_outside};
     ghost use Rattle.point_cache.specs.Staged.{no_rows};
 
     pub(crate) fn new(alloc: Global) -> Run
@@ -54,6 +59,13 @@ impl Run {
         ensures { result ≡ length self.now.next }
     {
         self.cut + (self.points.len() - self.live)
+    }
+
+    // Whether points are staged.
+    pub(crate) fn is_staged(&self) -> bool
+        ensures { IsTrue result → self.now.next ≢ self.now.live }
+    {
+        self.next_len() != self.live
     }
 
     // Stages one point more, in whatever order.
@@ -118,20 +130,6 @@ impl Run {
         cut_out(&mut self.points, first, end);
         self.live = self.points.len();
         self.cut = self.live;
-    }
-
-    // A copy of the points from one time to another.
-    pub(crate) fn within(
-        &self,
-        alloc: Global,
-        from: Time,
-        to: Time,
-    ) -> Result<Vec<(Time, Value)>, AllocError>
-        ensures { IfOk result (λ copy. copy.items ≡ rows_within from to self.now.live) }
-    {
-        let points = self.points();
-        let (first, end) = range(points, from, to);
-        Vec::from_slice(alloc, &points[first..end])
     }
 
     // Its points, without what is staged.

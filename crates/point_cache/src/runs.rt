@@ -1,20 +1,25 @@
 // The runs of all keys.
 use crate::key_points::KeyRun;
-use crate::places::{commit_all, discard_all, goes_on, place_of, put_at, settle_all, write_key};
-use crate::run::Run;
+use crate::places::{
+    commit_all, discard_all, follows, goes_on, place_of, put_at, settle_all, touch, write_key,
+};
+use crate::run::RunMap;
 use crate::taking::{remove_at, take_rows, turn_round};
 use indexmap::IndexMap;
 use std::alloc::{AllocError, Global};
+use std::hash::RandomState;
 use std::marker::Model;
 use tsdb_types::{Cell, Point, Time, Value};
 
-/// Keys with their runs, in a hash table that keeps places: a key is looked up once for all points of a batch that stand
-/// together. A batch notes the places that it touches.
+/// Keys with their runs, in a hash table that keeps places and whose hashes are seeded, since clients choose the keys. A batch notes the places that it touches, each once, in the order
+/// of their first points: points mostly come in that order again, and then no key is looked up.
 #[derive(Drop)]
 pub(crate) struct Runs {
     alloc: Global,
-    map: IndexMap<Vec<u8>, Run>,
+    map: RunMap,
     touched: Vec<usize>,
+    // Where the place of the last point stands among those that are touched, as it seems.
+    last: usize,
     points: u64,
     next_points: u64,
     key: Vec<u8>,
@@ -32,22 +37,23 @@ impl Model for Runs {
 }
 
 impl Runs {
-    ghost use Rattle.std.specs.Prelude.{◌≡◌, ℕ, ◌<◌, ◌≤◌, List, ◌++◌, [], ◌∷◌, length, take, drop, sum_by, slice_get, Some, OnOk, OnErr, IfOk, vec_capacity};
+    ghost use Rattle.std.specs.Prelude.{◌≡◌, ℕ, ◌<◌, ◌≤◌, List, ◌++◌, [], ◌∷◌, length, take, drop, sum_by, slice_get, Some, IfSome, OnOk, OnErr, IfOk, vec_capacity};
     ghost use Rattle.std.specs.List.{AllByRecursion};
     ghost use Rattle.tsdb_types.specs.Keys.{key_of};
     ghost use Rattle.tsdb_types.specs.declared.point.Point.{Point};
-    ghost use Rattle.point_cache.specs.Cached.{IsRun, points_at, rows_within};
+    ghost use Rattle.point_cache.specs.Cached.{AreAscending, IsRun, count, points_at};
     ghost use Rattle.point_cache.specs.Leaving.{IsFrozen, points_without};
     ghost use Rattle.point_cache.specs.Staged.{Among, AreSettled, KeysApart, lives, nexts, plain, staged_at};
     ghost use Rattle.point_cache.specs.Steps.{AddsKey, Grows, FindsKey, HasKey, IsFoundOf, IsPlaceBefore, Settles, StagesAt, WillSet};
 
-    pub(crate) fn new(alloc: Global) -> Runs
+    pub(crate) fn new(alloc: Global, hashing: RandomState) -> Runs
         ensures { result ≡ record { entries = []; touched = [] } }
     {
         Runs {
             alloc,
-            map: IndexMap::new(alloc),
+            map: IndexMap::with_hasher(alloc, hashing),
             touched: Vec::new(alloc),
+            last: 0,
             points: 0,
             next_points: 0,
             key: Vec::new(alloc),
@@ -74,12 +80,33 @@ impl Runs {
     fn find(&mut self, cell: &Cell) -> Result<usize, AllocError>
         ensures adds { AddsKey (key_of cell.now.series cell.now.field) self.old.entries self.new.entries }
         ensures found { IfOk result (λ place. FindsKey (key_of cell.now.series cell.now.field) place self.old.entries self.new.entries) }
-        ensures touched { IfOk result (λ place. self.new.touched ≡ self.old.touched ++ place ∷ []) }
+        ensures touched { IfOk result (Among self.new.touched) }
     {
         write_key(&mut self.key, &cell.series, &cell.field)?;
         let place = place_of(self.alloc, &mut self.map, self.key.as_slice())?;
-        self.touched.push(place)?;
+        touch(&self.map, &mut self.touched, place)?;
+        self.last = self.touched.len();
         Ok(place)
+    }
+
+    // The place behind that of the last point among those that are touched, or the one behind that, where it is that of a
+    // cell's key.
+    fn guess(&mut self, cell: &Cell) -> Option<usize>
+        ensures same { self.new ≡ self.old }
+        ensures key { IfSome result (λ place. HasKey self.old.entries place (key_of cell.now.series cell.now.field)) }
+        ensures touched { IfSome result (Among self.old.touched) }
+    {
+        let first = behind(self.last, self.touched.len());
+        if let Some(place) = follows(&self.map, self.touched.as_slice(), first, cell) {
+            self.last = first;
+            return Some(place);
+        }
+        let second = behind(first, self.touched.len());
+        if let Some(place) = follows(&self.map, self.touched.as_slice(), second, cell) {
+            self.last = second;
+            return Some(place);
+        }
+        None
     }
 
     // Stages a point at a place.
@@ -98,7 +125,7 @@ impl Runs {
         Ok(())
     }
 
-    // The place of the key of a point, which is that of the point before it where the two are of one key.
+    // The place of the key of a point: that of the point before it, one that came behind that one before, or one that is looked up.
     fn place_at(&mut self, points: &[Point], i: usize, place: usize) -> Result<usize, AllocError>
         requires within { i < length points.now }
         requires before { IsPlaceBefore self.old points.now i place }
@@ -108,7 +135,10 @@ impl Runs {
         if goes_on(points, i) {
             return Ok(place);
         }
-        self.find(&points[i].cell)
+        match self.guess(&points[i].cell) {
+            Some(next) => Ok(next),
+            None => self.find(&points[i].cell),
+        }
     }
 
     // Stages points in their order.
@@ -169,18 +199,14 @@ impl Runs {
         }
     }
 
-    // A copy of the points of a key from one time to another.
-    pub(crate) fn within(
-        &self,
-        key: &[u8],
-        from: Time,
-        to: Time,
-    ) -> Result<Vec<(Time, Value)>, AllocError>
-        ensures { IfOk result (λ copy. copy.items ≡ rows_within from to (staged_at self.now.entries key.now).live) }
+    // The points of a key.
+    pub(crate) fn rows_of(&self, key: &[u8]) -> &[(Time, Value)]
+        ensures live { result.now ≡ (staged_at self.now.entries key.now).live }
+        ensures ascending { AreAscending result.now }
     {
         match self.map.get(key) {
-            Some(run) => run.within(self.alloc, from, to),
-            None => Ok(Vec::new(self.alloc)),
+            Some(run) => run.points(),
+            None => &[],
         }
     }
 
@@ -190,6 +216,7 @@ impl Runs {
         ensures plain { self.new ≡ record { entries = plain (lives self.new.entries); touched = [] } }
         ensures points { (other : List ℕ) → points_at (lives self.new.entries) other ≡ points_without key.now from to other (points_at (lives self.old.entries) other) }
         ensures each { AllByRecursion IsRun (lives self.old.entries) → AllByRecursion IsRun (lives self.new.entries) }
+        ensures fewer { count (lives self.new.entries) ≤ count (lives self.old.entries) }
     {
         if let Some(place) = self.map.get_index_of(key) {
             let taken = remove_at(&mut self.map, place, key, from, to);
@@ -213,5 +240,14 @@ impl Runs {
         self.points = 0;
         self.next_points = 0;
         Ok(())
+    }
+}
+
+// The place behind one of so many, the first behind the last.
+fn behind(place: usize, many: usize) -> usize {
+    if place < many && many - place > 1 {
+        place + 1
+    } else {
+        0
     }
 }

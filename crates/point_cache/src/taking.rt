@@ -5,18 +5,11 @@ ghost use Rattle.point_cache.specs.Staged.{Entry, KeysApart, entries_of, lives};
 ghost use Rattle.point_cache.specs.Steps.{ChangesAt, HasKey};
 
 use crate::key_points::{Key, KeyRun, RunPoints};
-use crate::run::Run;
-use indexmap::IndexMap;
+use crate::run::{Run, RunMap};
 use tsdb_types::Time;
 
 // Takes away the points of a key from one time to another, and the key where none is left; how many were taken.
-pub(crate) fn remove_at(
-    map: &mut IndexMap<Vec<u8>, Run>,
-    place: usize,
-    key: &[u8],
-    from: Time,
-    to: Time,
-) -> u64
+pub(crate) fn remove_at(map: &mut RunMap, place: usize, key: &[u8], from: Time, to: Time) -> u64
     requires { HasKey (entries_of map.old.entries) place key.now }
     ensures removes { RemovesKey key.now from to (entries_of map.old.entries) (entries_of map.new.entries) }
     ensures counted { result + sum_by (λ entry. length entry.1.live) (entries_of map.new.entries) ≡ sum_by (λ entry. length entry.1.live) (entries_of map.old.entries) }
@@ -31,7 +24,7 @@ pub(crate) fn remove_at(
 }
 
 // Takes away the points of a place from one time to another; how many were taken, and how many are left.
-fn cut_run(map: &mut IndexMap<Vec<u8>, Run>, place: usize, from: Time, to: Time) -> (u64, usize)
+fn cut_run(map: &mut RunMap, place: usize, from: Time, to: Time) -> (u64, usize)
     ensures changed { ChangesAt (cut_of from to) place (entries_of map.old.entries) (entries_of map.new.entries) }
     ensures counted { result.0 + sum_by (λ entry. length entry.1.live) (entries_of map.new.entries) ≡ sum_by (λ entry. length entry.1.live) (entries_of map.old.entries) }
     ensures left { (entry : Entry) → slice_get (entries_of map.new.entries) place ≡ Some entry → result.1 ≡ length entry.1.live }
@@ -55,7 +48,7 @@ fn cut(run: &mut Run, from: Time, to: Time) -> (u64, usize)
 }
 
 // Takes a key without points out.
-fn drop_key(map: &mut IndexMap<Vec<u8>, Run>, place: usize)
+fn drop_key(map: &mut RunMap, place: usize)
     requires { (entry : Entry) → slice_get (entries_of map.old.entries) place ≡ Some entry → entry.1.live ≡ [] }
     ensures { Drops place (entries_of map.old.entries) (entries_of map.new.entries) }
 {
@@ -66,7 +59,7 @@ fn drop_key(map: &mut IndexMap<Vec<u8>, Run>, place: usize)
 }
 
 // The runs of a table become rows behind the others, for which there is room, the last first.
-pub(crate) fn take_rows(map: &mut IndexMap<Vec<u8>, Run>, rows: &mut Vec<KeyRun>)
+pub(crate) fn take_rows(map: &mut RunMap, rows: &mut Vec<KeyRun>)
     requires { vec_len rows.old + length map.old.entries ≤ vec_capacity rows.old }
     ensures rows { rows.new.items ≡ rows.old.items ++ reverse (lives (entries_of map.old.entries)) }
     ensures none { map.new.entries ≡ [] }

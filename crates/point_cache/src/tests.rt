@@ -1,5 +1,6 @@
 use crate::PointCache;
 use std::alloc::Global;
+use std::hash::RandomState;
 use std::test::Fail;
 use tombstones::TombSet;
 use tsdb_types::{Batch, Cell, Name, Point, SeriesKey, Tags, Time, Value};
@@ -65,7 +66,7 @@ fn are(points: &[(Time, Value)], rows: &[(i64, i64)]) -> bool {
 #[test]
 fn later_of_equal_cells_wins(rt: HostRuntime) -> Result<(), Fail> {
     let alloc = rt.alloc();
-    let mut cache = PointCache::new(alloc);
+    let mut cache = PointCache::new(alloc, RandomState::new(&rt)?);
     assert!(rt; set(alloc, &mut cache, &[("a", 5, 1), ("b", 5, 2), ("a", 5, 3)]));
     assert!(rt;
         set(
@@ -82,7 +83,7 @@ fn later_of_equal_cells_wins(rt: HostRuntime) -> Result<(), Fail> {
 #[test]
 fn points_are_removed_in_the_middle(rt: HostRuntime) -> Result<(), Fail> {
     let alloc = rt.alloc();
-    let mut cache = PointCache::new(alloc);
+    let mut cache = PointCache::new(alloc, RandomState::new(&rt)?);
     assert!(rt;
         set(
             alloc,
@@ -108,7 +109,7 @@ fn freeze(cache: &mut PointCache) -> bool {
 #[test]
 fn snapshot_stands_beside_new_points(rt: HostRuntime) -> Result<(), Fail> {
     let alloc = rt.alloc();
-    let mut cache = PointCache::new(alloc);
+    let mut cache = PointCache::new(alloc, RandomState::new(&rt)?);
     assert!(rt; set(alloc, &mut cache, &[("b", 2, 1), ("a", 1, 2), ("b", 1, 3)]));
     assert!(rt; freeze(&mut cache));
     assert!(rt; set(alloc, &mut cache, &[("b", 2, 9)]));

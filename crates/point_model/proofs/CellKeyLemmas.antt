@@ -1,6 +1,6 @@
 -- A composite key with a time tells its cell.
 use Rattle.std.proofs.Common.{◌≡◌, ◌∙◌, ℕ, ℤ, ◌+◌, List, ◌++◌, length, take, drop, refl, sym, ap, subst, arith, append_assoc, length-append}
-use Rattle.std.proofs.lemmas.List.{take-append-le, take_all}
+use Rattle.std.proofs.lemmas.List.{take-append-le, take_all, drop_at}
 use Rattle.tsdb_types.specs.Keys.{mark, key_of, IsFirstMark}
 use Rattle.tsdb_types.specs.declared.point.Cell.{Cell}
 use Rattle.tsdb_types.proofs.KeyLemmas.{one_first}

@@ -1,44 +1,39 @@
--- Which series meet a condition on tags, which texts does it hold, and how deep is it nested?
+-- What is a condition on tags, which series meet it, which texts does it hold, and how deep is it nested?
 use Rattle.std.specs.Prelude.{ℕ, ◌+◌, Bool, true, not, ◌&&◌, ◌||◌, nat_le, List, [], ◌∷◌, ◌++◌, if◌then◌else◌}
 use Rattle.std.specs.Str.{bytes_eq}
-use Rattle.point_model.specs.declared.condition.TagCond.{TagCond}
-use Rattle.point_model.specs.declared.condition.TagCond.TheFolds.{fold-TagCond}
-use Rattle.point_model.specs.declared.condition.TagCond.TheOpen.{TagCond-F}
 use Rattle.point_model.specs.Tags.{tag_text}
 
--- one level of a condition, with the answers of the two below in their places
-abbrev pub meets_level : List ℕ → TagCond-F Bool → Bool
-meets_level series TagCond-F.True = true
-meets_level series (TagCond-F.Eq key text) = bytes_eq (tag_text key series) text
-meets_level series (TagCond-F.Ne key text) = not (bytes_eq (tag_text key series) text)
-meets_level series (TagCond-F.And first second) = first && second
-meets_level series (TagCond-F.Or first second) = first || second
+-- That the tag with a key has a text, or that it has another one; that both sides are met, or one of them. Each series meets `True`.
+pub data Condition : Type 0 where
+  True : Condition
+  Eq : List ℕ → List ℕ → Condition
+  Ne : List ℕ → List ℕ → Condition
+  And : Condition → Condition → Condition
+  Or : Condition → Condition → Condition
 
 -- the tags of the series meet the condition; a tag that it lacks has the empty text
-abbrev pub meets : TagCond → List ℕ → Bool
-meets condition series = fold-TagCond Bool (meets_level series) condition
-
-abbrev pub texts_level : TagCond-F (List (List ℕ)) → List (List ℕ)
-texts_level TagCond-F.True = []
-texts_level (TagCond-F.Eq key text) = key ∷ text ∷ []
-texts_level (TagCond-F.Ne key text) = key ∷ text ∷ []
-texts_level (TagCond-F.And first second) = first ++ second
-texts_level (TagCond-F.Or first second) = first ++ second
+abbrev pub meets : Condition → List ℕ → Bool
+meets True series = true
+meets (Eq key text) series = bytes_eq (tag_text key series) text
+meets (Ne key text) series = not (bytes_eq (tag_text key series) text)
+meets (And first second) series = meets first series && meets second series
+meets (Or first second) series = meets first series || meets second series
 
 -- the keys and the texts that stand in a condition
-abbrev pub texts_of : TagCond → List (List ℕ)
-texts_of = fold-TagCond (List (List ℕ)) texts_level
+abbrev pub texts_of : Condition → List (List ℕ)
+texts_of True = []
+texts_of (Eq key text) = key ∷ text ∷ []
+texts_of (Ne key text) = key ∷ text ∷ []
+texts_of (And first second) = texts_of first ++ texts_of second
+texts_of (Or first second) = texts_of first ++ texts_of second
 
 abbrev pub larger : ℕ → ℕ → ℕ
 larger a b = if nat_le a b then b else a
 
-abbrev pub nesting_level : TagCond-F ℕ → ℕ
-nesting_level TagCond-F.True = 0
-nesting_level (TagCond-F.Eq key text) = 0
-nesting_level (TagCond-F.Ne key text) = 0
-nesting_level (TagCond-F.And first second) = larger first second + 1
-nesting_level (TagCond-F.Or first second) = larger first second + 1
-
 -- how many `and` and `or` are open at most at one place
-abbrev pub nesting : TagCond → ℕ
-nesting = fold-TagCond ℕ nesting_level
+abbrev pub nesting : Condition → ℕ
+nesting True = 0
+nesting (Eq key text) = 0
+nesting (Ne key text) = 0
+nesting (And first second) = larger (nesting first) (nesting second) + 1
+nesting (Or first second) = larger (nesting first) (nesting second) + 1

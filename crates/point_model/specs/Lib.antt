@@ -1,14 +1,16 @@
 pub mod Acceptance
+pub mod ConditionCode
 pub mod Conditions
 pub mod Contents
 pub mod Cursors
 pub mod Deletions
 pub mod Effects
+pub mod Flat
 pub mod Histories
-pub mod Joins
 pub mod Laws
 pub mod Measurements
 pub mod Points
+pub mod Readings
 pub mod Rows
 pub mod Sizes
 pub mod Tags

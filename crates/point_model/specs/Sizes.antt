@@ -2,9 +2,7 @@
 use Rattle.std.specs.Prelude.{ℕ, ◌+◌, ◌^◌, Bool, false, List, [], ◌∷◌, length, if◌then◌else◌}
 use Rattle.std.specs.Str.{bytes_eq}
 use Rattle.tsdb_types.specs.declared.point.Point.{Point}
-use Rattle.point_model.specs.declared.condition.TagCond.{TagCond}
-use Rattle.point_model.specs.declared.condition.TagCond.TheFolds.{fold-TagCond}
-use Rattle.point_model.specs.declared.condition.TagCond.TheOpen.{TagCond-F}
+use Rattle.point_model.specs.Conditions.{Condition, True, Eq, Ne, And, Or}
 use Rattle.point_model.specs.declared.deletion.Deletion.{Deletion}
 
 -- the most that a record may have
@@ -33,16 +31,13 @@ runs_length (point ∷ points) = point_length point + (if goes_on point points t
 abbrev pub write_length : List Point → ℕ
 write_length points = 17 + runs_length points
 
-abbrev pub condition_length_level : TagCond-F ℕ → ℕ
-condition_length_level TagCond-F.True = 1
-condition_length_level (TagCond-F.Eq key text) = 5 + (length key + length text)
-condition_length_level (TagCond-F.Ne key text) = 5 + (length key + length text)
-condition_length_level (TagCond-F.And first second) = 1 + (first + second)
-condition_length_level (TagCond-F.Or first second) = 1 + (first + second)
-
 -- a byte for each part, and key and text behind their lengths
-abbrev pub condition_length : TagCond → ℕ
-condition_length = fold-TagCond ℕ condition_length_level
+abbrev pub condition_length : Condition → ℕ
+condition_length True = 1
+condition_length (Eq key text) = 5 + (length key + length text)
+condition_length (Ne key text) = 5 + (length key + length text)
+condition_length (And first second) = 1 + (condition_length first + condition_length second)
+condition_length (Or first second) = 1 + (condition_length first + condition_length second)
 
 -- The record of a deletion: number, client and what it is as in a write, the measurement behind its length, the condition, and
 -- both times.

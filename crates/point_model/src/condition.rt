@@ -1,157 +1,129 @@
-ghost use Rattle.std.specs.Prelude.{◌≡◌, IfOk};
-ghost use Rattle.point_model.specs.Conditions.{meets};
-ghost use Rattle.point_model.specs.Joins as spec;
-ghost use Rattle.point_model.specs.declared.condition.TagCond.TheVariants as condition;
+ghost use Rattle.std.specs.Prelude.{◌≡◌, if◌then◌else◌};
 
-use crate::TagText;
-use crate::tags::has_tag_text;
-use sqlite_items::Boxed;
+use crate::step::step;
+use crate::{Join, Part, TagTest};
 use std::alloc::{AllocError, Global};
-use tsdb_types::{Name, SeriesKey};
+use std::marker::Model;
+use tsdb_types::SeriesKey;
 
-/// A condition on the tags of a series. A tag that a series lacks has the empty text.
-#[derive(Debug)]
-pub enum TagCond {
-    /// Each series meets it.
-    True,
-    /// The tag with this key has this text.
-    Eq(Name, TagText),
-    /// The tag with this key has another text.
-    Ne(Name, TagText),
-    /// The series meets both.
-    And(Boxed<TagCond>, Boxed<TagCond>),
-    /// The series meets one of them, or both.
-    Or(Boxed<TagCond>, Boxed<TagCond>),
+/// A condition on the tags of a series. A contract sees the `Condition` of `specs/Conditions.antt`.
+///
+/// Its parts stand in one list, each join before its two sides, and with each part the join whose second side begins with it. So no
+/// call on a condition takes stack by how deep it is nested.
+#[derive(Debug, Drop)]
+pub struct TagCond {
+    pub(crate) parts: Vec<(Option<Join>, Part)>,
+}
+
+impl Model for TagCond {
+    ghost use Rattle.std.specs.Prelude.{◌≡◌, None};
+    ghost use Rattle.point_model.specs.ConditionCode.{condition_code};
+    ghost use Rattle.point_model.specs.Conditions.{Condition};
+    ghost use Rattle.point_model.specs.Flat.{condition_in, parts_of};
+
+    ghost Value = { Condition };
+
+    ghost coded = { condition_code };
+
+    ghost view = { λ c. condition_in c.parts.items };
+
+    ghost invariant = { λ c. parts_of None (condition_in c.parts.items) ≡ c.parts.items };
 }
 
 impl TagCond {
+    ghost use Rattle.std.specs.Prelude.{◌≡◌, None, Some, ℕ, IfOk, OnOk, ◌++◌};
+    ghost use Rattle.point_model.specs.Conditions.{And, Or, meets};
+    ghost use Rattle.point_model.specs.Flat.{condition_of, joined, parts_of};
+
+    /// The condition of one test.
+    pub fn new(alloc: Global, test: TagTest) -> Result<TagCond, AllocError>
+        ensures { IfOk result (λ condition. condition ≡ condition_of test) }
+    {
+        let mut parts = Vec::new(alloc);
+        parts.push((None, Part::Test(test)))?;
+        Ok(TagCond { parts })
+    }
+
     /// The condition that both are met.
     pub fn and(alloc: Global, first: TagCond, second: TagCond) -> Result<TagCond, AllocError>
-        ensures { IfOk result (λ both. both ≡ condition.And first second) }
+        ensures { IfOk result (λ both. both ≡ And first second) }
     {
-        let first = Boxed::new(alloc, first)?;
-        let second = Boxed::new(alloc, second)?;
-        Ok(TagCond::And(first, second))
+        TagCond::join(alloc, Join::And, first, second)
     }
 
     /// The condition that one of them is met, or both.
     pub fn or(alloc: Global, first: TagCond, second: TagCond) -> Result<TagCond, AllocError>
-        ensures { IfOk result (λ either. either ≡ condition.Or first second) }
+        ensures { IfOk result (λ either. either ≡ Or first second) }
     {
-        let first = Boxed::new(alloc, first)?;
-        let second = Boxed::new(alloc, second)?;
-        Ok(TagCond::Or(first, second))
+        TagCond::join(alloc, Join::Or, first, second)
     }
 
-    /// Whether the tags of the series meet the condition. It takes no memory, and no stack for a row of comparisons, which is
-    /// nested by its left sides.
-    pub fn meets(&self, series: &SeriesKey) -> bool
-        ensures { result ≡ meets self.now series.now }
+    fn join(
+        alloc: Global,
+        join: Join,
+        first: TagCond,
+        second: TagCond,
+    ) -> Result<TagCond, AllocError>
+        ensures { IfOk result (λ whole. whole ≡ joined join first second) }
     {
-        let mut left = self;
-        'left: loop {
-            match left {
-                TagCond::True => return true,
-                TagCond::Eq(key, text) => {
-                    return has_tag_text(series, key, text.as_str().as_bytes());
-                }
-                TagCond::Ne(key, text) => {
-                    return !has_tag_text(series, key, text.as_str().as_bytes());
-                }
-                TagCond::And(first, second) => {
-                    if !second.get().meets(series) {
-                        return false;
-                    }
-                    left = first.get();
-                }
-                TagCond::Or(first, second) => {
-                    if second.get().meets(series) {
-                        return true;
-                    }
-                    left = first.get();
-                }
-            }
+        let mut parts = Vec::new(alloc);
+        parts.reserve(first.parts.len())?;
+        parts.push((None, Part::Join(join)))?;
+        first.put_side(&mut parts, None)?;
+        second.put_side(&mut parts, Some(join))?;
+        Ok(TagCond { parts })
+    }
+
+    // Puts its parts behind others; it is the second side of that join, or a first side.
+    fn put_side(
+        self,
+        out: &mut Vec<(Option<Join>, Part)>,
+        of: Option<Join>,
+    ) -> Result<(), AllocError>
+        ensures { OnOk result (out.new.items ≡ out.old.items ++ parts_of of self) }
+    {
+        let mut is_first = true;
+        for (own, part) in self.parts {
+            out.push((side_of(is_first, of, own), part))?;
+            is_first = false;
         }
+        Ok(())
     }
 
-    /// An equal condition, copied along its left sides by a loop.
+    /// Its parts, each join before its two sides; with each the join whose second side begins with it.
+    pub fn parts(&self) -> &[(Option<Join>, Part)]
+        ensures { result.now ≡ parts_of None self.now }
+    {
+        &self.parts
+    }
+
+    /// An equal condition.
     pub fn carry(&self, alloc: Global) -> Result<TagCond, AllocError>
         ensures { IfOk result (λ copy. copy ≡ self.now) }
     {
-        let mut ends = Vec::new(alloc);
-        let mut left = self;
-        'left: loop {
-            match left {
-                TagCond::True => return joined(alloc, TagCond::True, ends),
-                TagCond::Eq(key, text) => {
-                    return joined(alloc, TagCond::Eq(key.carry()?, text.carry()?), ends);
-                }
-                TagCond::Ne(key, text) => {
-                    return joined(alloc, TagCond::Ne(key.carry()?, text.carry()?), ends);
-                }
-                TagCond::And(first, second) => {
-                    ends.push((Join::And, second.get().carry(alloc)?))?;
-                    left = first.get();
-                }
-                TagCond::Or(first, second) => {
-                    ends.push((Join::Or, second.get().carry(alloc)?))?;
-                    left = first.get();
-                }
-            }
+        let mut parts = Vec::with_capacity(alloc, self.parts.len())?;
+        for (of, part) in &self.parts {
+            parts.push((*of, part.carry()?))?;
         }
+        Ok(TagCond { parts })
     }
-}
 
-// What joins two conditions.
-#[derive(Clone, Copy, PartialEq, Eq)]
-enum Join {
-    And,
-    Or,
-}
-
-// The condition with these right sides, the outermost first, around this left one.
-fn joined(alloc: Global, left: TagCond, ends: Vec<(Join, TagCond)>) -> Result<TagCond, AllocError>
-    ensures { IfOk result (λ whole. whole ≡ spec.joined left ends.items) }
-{
-    let mut ends = ends;
-    let mut whole = left;
-    while let Some((join, second)) = ends.pop() {
-        whole = join_of(alloc, join, whole, second)?;
-    }
-    Ok(whole)
-}
-
-fn join_of(
-    alloc: Global,
-    join: Join,
-    first: TagCond,
-    second: TagCond,
-) -> Result<TagCond, AllocError>
-    ensures { IfOk result (λ whole. whole ≡ spec.join_of join first second) }
-{
-    match join {
-        Join::And => TagCond::and(alloc, first, second),
-        Join::Or => TagCond::or(alloc, first, second),
-    }
-}
-
-// A row of comparisons is nested by its left sides: they are dropped by a loop, which takes no stack.
-impl Drop for TagCond {
-    fn drop(mut self) {
-        'left: loop {
-            match self {
-                TagCond::True => return,
-                TagCond::Eq(_key, _text) => return,
-                TagCond::Ne(_key, _text) => return,
-                TagCond::And(first, second) => {
-                    second.into_inner().drop();
-                    self = first.into_inner();
-                }
-                TagCond::Or(first, second) => {
-                    second.into_inner().drop();
-                    self = first.into_inner();
-                }
-            }
+    /// Whether the tags of the series meet the condition. It takes no memory.
+    pub fn meets(&self, series: &SeriesKey) -> bool
+        ensures { result ≡ meets self.now series.now }
+    {
+        let mut met = true;
+        let mut passing = 0;
+        for (of, part) in &self.parts {
+            (met, passing) = step(series, met, passing, *of, part);
         }
+        met
     }
+}
+
+// The first part of a side gets a new place, the others keep theirs.
+fn side_of(is_first: bool, of: Option<Join>, own: Option<Join>) -> Option<Join>
+    ensures { result ≡ (if is_first then of else own) }
+{
+    if is_first { of } else { own }
 }

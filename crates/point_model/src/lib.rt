@@ -13,10 +13,12 @@ mod entry;
 mod fault;
 mod names;
 mod need;
+mod part;
+mod reader;
+mod sides;
+mod step;
 mod tag_text;
 mod tags;
-#[cfg(test)]
-mod tests;
 
 pub use condition::TagCond;
 pub use cursor::PointCursor;
@@ -25,6 +27,8 @@ pub use entry::Entry;
 pub use fault::CursorFault;
 pub use names::{Fields, Names, TagKeys};
 pub use need::Need;
+pub use part::{Join, Part, TagTest};
+pub use reader::{ReadCond, TagCondReader};
 pub use tag_text::TagText;
 pub use tags::{measurement_head, text_of_tag};
 

@@ -66,15 +66,16 @@ dialogue_of asked old new transcript dialogue kept alike same records steps =
       opening = length old.told.history;
       from = longer asked.told.history old.told.history kept.history;
       records = told;
-      told = λ tells. record {
+      told = record {
         within = longer old.told.history new.told.history it.kept.history;
         records = told;
-        places = it.places tells;
+        places = it.places;
       };
       own = it.own ∙ ap (λ (l : List ℕ). l ++ own_numbers dialogue) alike.own;
       out = it.out ∙ alike.out;
       ages = subst (λ (h : Health). Ages h new.health) same it.ages;
       faults = subst (λ (h : Health). min (h.faults + faults_in (all_answers dialogue)) last_count ≤ new.health.faults) same it.faults;
+      quiet = λ none. it.quiet none ∙ same;
     }
 
 pub concluded : (asked : Stored) (a c : Moment) (read : List ℕ) (report : Report) → Keeps asked.told a.saying.store.told → IsAlike asked.told a.saying.store.told
@@ -179,5 +180,6 @@ asked_before first asked new before now report kept alike same session =
         out = it.out ∙ alike.out;
         ages = subst (λ (h : Health). Ages h new.health) same it.ages;
         faults = subst (λ (h : Health). min (h.faults + faults_in (all_answers session.dialogue)) last_count ≤ new.health.faults) same it.faults;
+        quiet = λ none. it.quiet none ∙ same;
       };
     }

@@ -13,6 +13,7 @@ pub mod ReadingLemmas
 pub mod TableLemmas
 pub mod ServingLemmas
 pub mod AnsweringLemmas
+pub mod ComposedLemmas
 pub mod ConcludingLemmas
 pub mod MergeLemmas
 pub mod TakingLemmas

@@ -19,9 +19,7 @@ use Rattle.point_model.specs.Points.{Points, cell_cmp, value_at}
 use Rattle.point_model.specs.Rows.{Row, is_of, rows_of}
 use Rattle.tsdb_types.specs.Moments.{IsMoment}
 use Rattle.point_model.specs.declared.need.Need.{Need}
-use Rattle.point_model.specs.declared.condition.TagCond.{TagCond, the_lemmas}
-use Rattle.point_model.specs.declared.condition.TagCond.TheVariants as condition
-use Rattle.point_model.specs.Conditions.{meets}
+use Rattle.point_model.specs.Conditions.{Condition, True, meets}
 use Rattle.point_model.specs.Cursors.{Key, key_cmp, in_order, rows_between, rows_needed, Shown, Gives}
 use Rattle.session_loop.specs.declared.select.Found.{Found}
 use Rattle.session_loop.specs.Merged.{at_place, rows_at, rows_from, found_cmp, row_found, AreInOrder, AsksAll}
@@ -408,11 +406,11 @@ cell_total = then_total (then_total (on_total (λ (c : Cell). c.time) int_cmp_to
 at_itself : (cell : Cell) → is_at (cell_cmp cell) cell ≡ true
 at_itself cell = ap is_eq (tied_itself cell_total cell)
 
-always_met : (series : List ℕ) → meets condition.True series ≡ true
-always_met series = search (rules, the_lemmas)
+always_met : (series : List ℕ) → meets True series ≡ true
+always_met series = refl
 
 meets_all : (need : Need) (series : List ℕ) → AsksAll need → meets need.tags series ≡ true
-meets_all need series all = ap (λ (tags : TagCond). meets tags series) all.tags ∙ always_met series
+meets_all need series all = ap (λ (tags : Condition). meets tags series) all.tags ∙ always_met series
 
 inside_all : (need : Need) (time : ℤ) → AsksAll need → IsMoment time → (int_le need.from time && int_le time need.to) ≡ true
 inside_all need time all moment =

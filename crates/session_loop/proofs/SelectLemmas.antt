@@ -1,5 +1,7 @@
 -- What a view leaves of a session's step.
-use Rattle.std.proofs.Common.{◌≡◌, ◌<◌, ◌≤◌, ◌^◌, ◌≢◌, ℕ, ℤ, pos, negsuc, Bool, true, false, not, ◌==◌, List, [], ◌∷◌, ◌++◌, length, map, refl, sym, ap, ◌∙◌, subst, arith, inl, inr, Some, None, IsTrue, All, Result, Ok, Err, IfOk, if◌then◌else◌}
+use Rattle.std.proofs.Common.{◌≡◌, ◌<◌, ◌≤◌, ◌^◌, ◌≢◌, ℕ, ℤ, pos, negsuc, Bool, true, false, not, ◌==◌, List, [], ◌∷◌, ◌++◌, length, map, refl, sym, ap, ◌∙◌, subst, arith, inl, inr, Some, None, nat_eq, IsTrue, All, Option, Result, Ok, Err, IfOk, if◌then◌else◌}
+use Rattle.std.specs.Prelude.{IsSome, IsErrOf}
+use Rattle.std.specs.Cmp.Lexicographic.{pointwise, nat_list_eq_equiv}
 use Rattle.std.proofs.lemmas.Bool.{false≢true}
 use Rattle.std.proofs.Math.Facts.{leb_yes}
 use Rattle.std.proofs.lemmas.Bool.Decides.{eqb_tells}
@@ -13,9 +15,9 @@ use Rattle.shard_disk.proofs.HealthLemmas.{fresh_none}
 use Rattle.point_model.specs.declared.need.Need.{Need}
 use Rattle.point_model.specs.declared.fault.CursorFault.{CursorFault}
 use Rattle.point_model.specs.declared.fault.CursorFault.TheVariants as cursor_fault
-use Rattle.point_model.specs.declared.entry.Entry.{Entry}
-use Rattle.point_model.specs.Histories.{State}
-use Rattle.point_model.specs.Points.{cell_cmp}
+use Rattle.point_model.specs.Points.{Points, cell_cmp}
+use Rattle.tsdb_types.specs.Series.{measurement_text, is_key_with, is_series_of}
+use Rattle.shard_disk.specs.declared.damage.Damage.{Damage}
 use Rattle.point_model.specs.Rows.{Row, rows_of}
 use Rattle.std.specs.List.Sorted.{IsStrictlySortedBy}
 use Rattle.std.specs.Map.{keys_of}
@@ -32,11 +34,10 @@ use Rattle.session_model.proofs.TextLemmas.{both_true}
 use Rattle.session_model.specs.Replies.{Reply, Table, text, accepted}
 use Rattle.session_model.specs.Replies.Reply.{Found, OutOfMemory, DeviceFault, Damaged}
 use Rattle.session_model.specs.Machine.{Answer, shown_row, tables_of}
-use Rattle.session_model.specs.Explained.{IsGivenAt}
 use Rattle.session_loop.specs.Merged.{AreRowsOf, AsksAll, IsReadableFound}
-use Rattle.session_loop.specs.Steps.{Stored, Step, Serves, HasCause, answer_to}
+use Rattle.session_loop.specs.Steps.{Stored, Step, Serves, answer_to}
 use Rattle.session_loop.specs.Texts.{IsTextOf, reply_of_view}
-use Rattle.session_loop.proofs.StepLemmas.{keeps_then, given_longer, given_by, given_now, cause_later, longer, IsGivenNow, step_now, memory_step, serves_or_memory}
+use Rattle.session_loop.proofs.StepLemmas.{keeps_then, given_kept, given_now, longer, ages_same, IsGivenNow, step_now, memory_step}
 use Rattle.session_loop.proofs.MergeLemmas.{view_rows}
 
 -- What a row shows.
@@ -72,24 +73,69 @@ pub found_readable : (number : ℕ) (measurement field : List ℕ) (rows : List 
 found_readable number measurement field rows small name column h =
     (small, readable_tables measurement field rows name column (readable_rows rows (recursion_from_All IsReadableFound rows h)))
 
+limited : {L : Type 0} (limits : Option L) → ¬ (limits ≡ None) → IsSome limits
+limited None some = absurd (some refl)
+limited (Some l) some = refl
+
+untold : (tells : Bool) → ¬ (IsTrue tells) → tells ≡ false
+untold true none = absurd (none refl)
+untold false none = refl
+
+-- Some points have these rows of a field: those of the state, where they are told.
+record AreFound (tells : Bool) (stored : Points) (field measurement : List ℕ) (rows : List Row) : Type 0 where
+  points : Points
+  are_told : IsTrue tells → points ≡ stored
+  shows : rows ≡ rows_of measurement field points
+
+-- points with these rows, in one series of the measurement
+abbrev shown_points : List ℕ → List ℕ → List Row → Points
+shown_points field measurement [] = []
+shown_points field measurement (row ∷ rows) =
+    (record { time = row.0; series = measurement_text measurement; field = field }, row.1) ∷ shown_points field measurement rows
+
+begins_itself : (text : List ℕ) → is_key_with text text ≡ true
+begins_itself [] = refl
+begins_itself (byte ∷ text) = elim (eqb_tells byte byte) [
+  | inl same ↦ ap (λ (t : Bool). if t then is_key_with text text else false) same.0 ∙ begins_itself text
+  | inr apart ↦ absurd (apart.1 refl)
+]
+
+shown_rows : (field measurement : List ℕ) (rows : List Row) → rows ≡ rows_of measurement field (shown_points field measurement rows)
+shown_rows field measurement [] = refl
+shown_rows field measurement (row ∷ rows) =
+    let rest = rows_of measurement field (shown_points field measurement rows) in
+    let here = both_true (is_series_of measurement (measurement_text measurement)) (pointwise nat_eq field field) (begins_itself (measurement_text measurement)) (nat_list_eq_equiv.refl field) in
+    ap (λ (l : List Row). row ∷ l) (shown_rows field measurement rows)
+    ∙ sym (ap (λ (t : Bool). if t then row ∷ rest else rest) here)
+
+found_points : (tells : Bool) (stored : Points) (field measurement : List ℕ) (rows : List Row) → (IsTrue tells → rows ≡ rows_of measurement field stored) → AreFound tells stored field measurement rows
+found_points true stored field measurement rows found = record { points = stored; are_told = λ is. refl; shows = found refl }
+found_points false stored field measurement rows found = record {
+  points = shown_points field measurement rows;
+  are_told = λ is. absurd (false≢true is);
+  shows = shown_rows field measurement rows;
+}
+
 -- No view was begun.
 
 -- there was no memory for one
 pub view_memory : (old new : Stored) (asks : Statement) (bytes : List ℕ) → bytes ≡ text OutOfMemory → Keeps old.told new.told → IsAlike old.told new.told
-    → Ages old.health new.health → Serves old asks bytes None new
-view_memory old new asks bytes spelled kept alike ages = record {
+    → new.health ≡ old.health → Serves old asks bytes None new
+view_memory old new asks bytes spelled kept alike still = record {
   reply = OutOfMemory;
   spelled = spelled;
-  step = λ request moment means. memory_step old new request moment None kept alike ages (inl refl);
+  step = λ request moment means. memory_step old new request moment None kept alike still (inl refl);
 }
 
 -- a device failed
-pub view_refused : (old new : Stored) (asks : Statement) (bytes : List ℕ) → IsTextOf DeviceFault bytes → Keeps old.told new.told → IsAlike old.told new.told
+pub view_refused : (old new : Stored) (asks : Statement) (bytes : List ℕ) → bytes ≡ text DeviceFault → Keeps old.told new.told → IsAlike old.told new.told
     → Ages old.health new.health → Failed old.health new.health → Serves old asks bytes None new
-view_refused old new asks bytes spelled kept alike ages failed =
-    serves_or_memory old new asks bytes DeviceFault None spelled kept alike ages (inl refl)
-    (λ request moment means. step_now old new (answer_to request moment DeviceFault None) kept alike ages refl tt (λ same. failed.rose)
-    (λ tells. inl (record { aside = tt; cause = tt; number = inl refl })))
+view_refused old new asks bytes spelled kept alike ages failed = record {
+  reply = DeviceFault;
+  spelled = spelled;
+  step = λ request moment means. step_now old new (answer_to request moment DeviceFault None) kept alike ages refl tt (λ same. failed.rose)
+      (λ other. absurd (other refl)) (inl (record { aside = tt; cause = tt; number = inl refl }));
+}
 
 -- A view was begun.
 
@@ -103,27 +149,19 @@ loan_back loan others = by (loan == loan) refl
 -- an answer that is given while a view is out, and stays given when it has ended
 view_step : (old mid new : Stored) (answer : Answer) → Keeps old.told mid.told → Keeps mid.told new.told → new.told.out ≡ old.told.out → new.told.own ≡ old.told.own
     → accepted answer.reply ≡ [] → IsReadable answer.reply → Ages old.health new.health → (answer.reply ≡ DeviceFault → Rose old.health.faults new.health.faults)
-    → (IsTrue mid.told.tells → IsGivenNow mid.told answer) → Step old answer new
-view_step old mid new answer first second out own none readable ages fault given = record {
+    → (answer.reply ≢ DeviceFault → new.health ≡ old.health) → IsGivenNow mid.told answer → Step old answer new
+view_step old mid new answer first second out own none readable ages fault quiet given = record {
   kept = keeps_then old.told mid.told new.told first second;
   out = out;
   own = own ∙ sym (append-nil old.told.own) ∙ ap (λ (l : List ℕ). old.told.own ++ l) (sym none);
   place = length mid.told.history;
   from = longer old.told.history mid.told.history first.history;
   to = (let low = longer mid.told.history new.told.history second.history in let e = ap length none in omega arith);
-  given = λ tells.
-      let here = given_now mid.told answer (given (subst (λ (b : Bool). IsTrue b) second.tells tells)) in
-      let place = length mid.told.history in
-      let longer_one = given_longer (HasCause mid.told) mid.told.start mid.told.history second.history.since mid.told.client answer place here in
-      let weaker = given_by (HasCause mid.told) (HasCause new.told) mid.told.start (mid.told.history ++ second.history.since) mid.told.client answer place
-      (λ before cause. cause_later mid.told new.told before answer answer.reply second cause) longer_one in
-      let history : mid.told.history ++ second.history.since ≡ new.told.history = sym second.history.begins in
-      subst (λ (s : State). IsGivenAt (HasCause new.told) s new.told.history new.told.client answer place) (sym second.start)
-      (subst (λ (h : List Entry). IsGivenAt (HasCause new.told) mid.told.start h new.told.client answer place) history
-      (subst (λ (n : ℕ). IsGivenAt (HasCause new.told) mid.told.start (mid.told.history ++ second.history.since) n answer place) (sym second.client) weaker));
+  given = given_kept mid.told new.told answer (length mid.told.history) second (given_now mid.told answer given);
   readable = readable;
   ages = ages;
   fault = fault;
+  quiet = quiet;
 }
 
 -- how a store ages while a view is out
@@ -132,8 +170,12 @@ view_ages old mid new began now first fresh ages back = record {
   later = (let low = first.later in let more = back.grows in omega arith);
   steady = λ steady.
       let same = first.steady steady in
-      back.steady (subst (λ (h : Health). IsTrue h.is_steady) (sym same) steady) (fresh_none old began now fresh ages steady) ∙ same;
+      back.quiet (fresh_none old began now fresh ages steady) ∙ same;
 }
+
+-- a view that met no fault leaves the store's health
+view_quiet : (old mid new began now : Health) → mid ≡ old → IsFresh old began → now ≡ began → TakesBack now mid new → new ≡ old
+view_quiet old mid new began now first fresh same back = back.quiet (ap (λ (h : Health). h.faults) same ∙ fresh.none) ∙ first
 
 view_fault : (old mid new began now : Health) → Ages old mid → IsFresh old began → Failed began now → TakesBack now mid new → Rose old.faults new.faults
 view_fault old mid new began now first fresh failed back =
@@ -153,7 +195,7 @@ pub record Viewed {X : Type 0} (view : X → List Row) (old mid new : Stored) (f
   pub all : AsksAll need
   pub begins : Begins need shown loan can_be_damaged old.told mid.told
   pub kept : Keeps old.told mid.told
-  pub ages : Ages old.health mid.health
+  pub still : mid.health ≡ old.health
   pub fresh : IsFresh old.health began
   pub found : IfOk rows (λ r. AreRowsOf field shown (view r))
   pub cause : CursorHasCause rows can_be_damaged began now
@@ -170,11 +212,11 @@ module _ {X : Type 0} (view : X → List Row) (old mid new : Stored) (field meas
   out_still rows seen = seen.ends.out ∙ ap (without seen.loan) seen.begins.out ∙ loan_back seen.loan old.told.out
 
   aside_step : (rows : Result X CursorFault) → Viewed view old mid new field measurement rows number → (request : Request) (moment : ℤ) (reply : Reply)
-      → accepted reply ≡ [] → IsReadable reply → (reply ≡ DeviceFault → Rose old.health.faults new.health.faults)
-      → (IsTrue mid.told.tells → IsGivenNow mid.told (answer_to request moment reply (Some number))) → Step old (answer_to request moment reply (Some number)) new
-  aside_step rows seen request moment reply none readable fault given =
+      → accepted reply ≡ [] → IsReadable reply → (reply ≡ DeviceFault → Rose old.health.faults new.health.faults) → (reply ≢ DeviceFault → new.health ≡ old.health)
+      → IsGivenNow mid.told (answer_to request moment reply (Some number)) → Step old (answer_to request moment reply (Some number)) new
+  aside_step rows seen request moment reply none readable fault quiet given =
       view_step old mid new (answer_to request moment reply (Some number)) seen.kept seen.kept_on (out_still rows seen) (seen.ends.own ∙ seen.begins.own) none readable
-      (view_ages old.health mid.health new.health seen.began seen.now seen.ages seen.fresh seen.cause.ages seen.back) fault given
+      (view_ages old.health mid.health new.health seen.began seen.now (ages_same old.health mid.health seen.still) seen.fresh seen.cause.ages seen.back) fault quiet given
 
   memory_not_fault : OutOfMemory ≡ DeviceFault → ⊥
   memory_not_fault same = cc same
@@ -188,10 +230,13 @@ module _ {X : Type 0} (view : X → List Row) (old mid new : Stored) (field meas
   now_told : (rows : Result X CursorFault) → Viewed view old mid new field measurement rows number → Some number ≡ Some (state_now mid.told).number
   now_told rows seen = ap Some (number_now rows seen)
 
-  view_memory_step : (rows : Result X CursorFault) → Viewed view old mid new field measurement rows number → (request : Request) (moment : ℤ)
+  view_still : (rows : Result X CursorFault) → Viewed view old mid new field measurement rows number → ¬ (IsErrOf rows cursor_fault.Fault) → new.health ≡ old.health
+  view_still rows seen none = view_quiet old.health mid.health new.health seen.began seen.now seen.still seen.fresh (seen.cause.quiet none) seen.back
+
+  view_memory_step : (rows : Result X CursorFault) → Viewed view old mid new field measurement rows number → ¬ (IsErrOf rows cursor_fault.Fault) → (request : Request) (moment : ℤ)
       → Step old (answer_to request moment OutOfMemory (Some number)) new
-  view_memory_step rows seen request moment = aside_step rows seen request moment OutOfMemory refl tt (λ same. absurd (memory_not_fault same))
-      (λ tells. inl (record { aside = tt; cause = tt; number = inr (now_told rows seen) }))
+  view_memory_step rows seen none request moment = aside_step rows seen request moment OutOfMemory refl tt (λ same. absurd (memory_not_fault same))
+      (λ other. view_still rows seen none) (inl (record { aside = tt; cause = tt; number = inr (now_told rows seen) }))
 
   found_rows : (rows : X) → Viewed view old mid new field measurement (Ok rows) number → IsTrue mid.told.tells → view rows ≡ rows_of measurement field (state_now mid.told).points
   found_rows rows seen tells =
@@ -204,17 +249,31 @@ module _ {X : Type 0} (view : X → List Row) (old mid new : Stored) (field meas
       sound_cells : IsTrue mid.told.tells → IsStrictlySortedBy cell_cmp (keys_of (state_now mid.told).points)
       sound_cells t = let sound = seen.begins.sound t in sound.ordered
 
+  -- damage is met only where the store doesn't tell, and has limits
+  damaged_cause : (damage : Damage) → Viewed view old mid new field measurement (Err (cursor_fault.Damaged damage)) number → IsSome mid.told.limits × (mid.told.tells ≡ false)
+  damaged_cause damage seen =
+      let can : IsTrue seen.can_be_damaged = seen.cause.damaged damage refl in
+      (limited mid.told.limits (λ none. false≢true (sym (seen.begins.unlimited_is_whole none) ∙ can)), untold mid.told.tells (λ tells. false≢true (sym (seen.begins.told_is_whole tells) ∙ can)))
+
+  -- the points whose rows were found: those of the store, where it tells them
+  found_in : (rows : X) → Viewed view old mid new field measurement (Ok rows) number → AreFound mid.told.tells (state_now mid.told).points field measurement (view rows)
+  found_in rows seen = found_points mid.told.tells (state_now mid.told).points field measurement (view rows) (found_rows rows seen)
+
   found_step : (rows : X) → Viewed view old mid new field measurement (Ok rows) number → IsReadable (Found number (tables_of measurement field (view rows)))
       → (request : Request) (moment : ℤ) → Means request moment (statement.Select field measurement)
       → Step old (answer_to request moment (Found number (tables_of measurement field (view rows))) (Some number)) new
   found_step rows seen readable request moment means =
       let reply = Found number (tables_of measurement field (view rows)) in
+      let found = found_in rows seen in
       aside_step (Ok rows) seen request moment reply refl readable (λ same. absurd (found_not_fault (view rows) same))
-      (λ tells. inr (record {
+      (λ other. view_still (Ok rows) seen (λ wrong. cc wrong))
+      (inr (record {
         asks = statement.Select field measurement;
         means = means;
+        points = found.points;
+        are_told = found.are_told;
         reply = ap (λ (n : ℕ). Found n (tables_of measurement field (view rows))) (number_now (Ok rows) seen)
-            ∙ ap (λ (l : List Row). Found (state_now mid.told).number (tables_of measurement field l)) (found_rows rows seen tells);
+            ∙ ap (λ (l : List Row). Found (state_now mid.told).number (tables_of measurement field l)) found.shows;
         number = refl;
         entry_made = refl;
       }))
@@ -223,19 +282,23 @@ module _ {X : Type 0} (view : X → List Row) (old mid new : Stored) (field meas
       → (request : Request) (moment : ℤ) → Means request moment (statement.Select field measurement)
       → Step old (answer_to request moment (reply_of_view view number measurement field rows) (Some number)) new
   reply_step (Ok rows) seen readable request moment means = found_step rows seen readable request moment means
-  reply_step (Err cursor_fault.Memory) seen readable request moment means = view_memory_step (Err cursor_fault.Memory) seen request moment
+  reply_step (Err cursor_fault.Memory) seen readable request moment means = view_memory_step (Err cursor_fault.Memory) seen (λ wrong. cc wrong) request moment
   reply_step (Err cursor_fault.Fault) seen readable request moment means =
       aside_step (Err cursor_fault.Fault) seen request moment DeviceFault refl tt
-      (λ same. view_fault old.health mid.health new.health seen.began seen.now seen.ages seen.fresh (seen.cause.fault refl) seen.back)
-      (λ tells. inl (record { aside = tt; cause = tt; number = inr (now_told (Err cursor_fault.Fault) seen) }))
+      (λ same. view_fault old.health mid.health new.health seen.began seen.now (ages_same old.health mid.health seen.still) seen.fresh (seen.cause.fault refl) seen.back)
+      (λ other. absurd (other refl)) (inl (record { aside = tt; cause = tt; number = inr (now_told (Err cursor_fault.Fault) seen) }))
   reply_step (Err (cursor_fault.Damaged damage)) seen readable request moment means =
       aside_step (Err (cursor_fault.Damaged damage)) seen request moment (Damaged damage.file damage.offset) refl readable
       (λ same. absurd (damaged_not_fault damage.file damage.offset same))
-      (λ tells. absurd (false≢true (sym (seen.begins.told_is_whole tells) ∙ seen.cause.damaged damage refl)))
+      (λ other. view_still (Err (cursor_fault.Damaged damage)) seen (λ wrong. cc wrong))
+      (inl (record { aside = tt; cause = damaged_cause damage seen; number = inr (now_told (Err (cursor_fault.Damaged damage)) seen) }))
 
   -- the reply to a SELECT is the machine's, or has its cause
   pub view_serves : (rows : Result X CursorFault) (bytes : List ℕ) → Viewed view old mid new field measurement rows number
       → IsTextOf (reply_of_view view number measurement field rows) bytes → IsReadable (reply_of_view view number measurement field rows)
       → Serves old (statement.Select field measurement) bytes (Some number) new
   view_serves rows bytes seen (inl spelled) readable = record { reply = reply_of_view view number measurement field rows; spelled = spelled; step = reply_step rows seen readable }
-  view_serves rows bytes seen (inr spelled) readable = record { reply = OutOfMemory; spelled = spelled; step = λ request moment means. view_memory_step rows seen request moment }
+  view_serves (Ok rows) bytes seen (inr spelled) readable = record { reply = OutOfMemory; spelled = spelled.1; step = λ request moment means. view_memory_step (Ok rows) seen (λ wrong. cc wrong) request moment }
+  view_serves (Err cursor_fault.Memory) bytes seen (inr spelled) readable = absurd spelled.0
+  view_serves (Err cursor_fault.Fault) bytes seen (inr spelled) readable = absurd spelled.0
+  view_serves (Err (cursor_fault.Damaged damage)) bytes seen (inr spelled) readable = absurd spelled.0

@@ -1,5 +1,5 @@
 -- What a store's answer is to a request.
-use Rattle.std.proofs.Common.{◌≡◌, ◌<◌, ◌+◌, ◌^◌, ◌&&◌, ◌==◌, ℕ, ℤ, Bool, true, false, not, nat_le, nat_lt, List, [], ◌∷◌, refl, sym, ap, ◌∙◌, subst, arith, inl, inr, Some, None, All, suc, Err, if◌then◌else◌}
+use Rattle.std.proofs.Common.{◌≡◌, ◌<◌, ◌+◌, ◌^◌, ◌&&◌, ◌==◌, ℕ, ℤ, Bool, true, false, not, nat_le, nat_lt, List, [], ◌∷◌, refl, sym, ap, ◌∙◌, subst, arith, inl, inr, Some, None, IsTrue, All, suc, Err, if◌then◌else◌}
 use Rattle.std.proofs.lemmas.Bool.Decides.{nat_tests, eqb_tells}
 use Rattle.std.specs.List.{list_all}
 use Rattle.shard_disk.specs.Health.{Health, Ages}
@@ -12,7 +12,7 @@ use Rattle.point_model.specs.Histories.{State}
 use Rattle.point_model.specs.declared.entry.Entry.TheVariants.{Write as Write_entry}
 use Rattle.point_model.specs.Acceptance.{Conflict, conflict}
 use Rattle.store_trait.specs.Told.{Told, Keeps, IsAlike, state_now}
-use Rattle.store_trait.specs.Calls.Write.{WriteHasCause}
+use Rattle.store_trait.specs.Calls.Write.{WriteHasCause, Conflicts}
 use Rattle.store_trait.specs.declared.fault.WriteFault.{WriteFault}
 use Rattle.store_trait.specs.declared.fault.WriteFault.TheVariants as fault
 use Rattle.session_model.specs.declared.statement.Statement.TheVariants as statement
@@ -23,12 +23,9 @@ use Rattle.session_model.specs.declared.statement.Refusal.{Refusal}
 use Rattle.session_model.specs.Replies.{Reply, text, named, accepted}
 use Rattle.session_model.specs.Replies.Reply.{Accepted, Reached, NotReached, NotBuilt, Refused, TypeConflict, HistoryFull, OutOfMemory, DeviceFault, CacheFull, SeriesFull}
 use Rattle.session_model.specs.Machine.{Served, Serves as Is_machines, serve_batch}
-use Rattle.session_loop.specs.Steps.{Stored, Step, Serves, ServesRead, answer_to, told_at}
+use Rattle.session_loop.specs.Steps.{Stored, Step, Serves, ServesRead, answer_to}
 use Rattle.session_loop.specs.Texts.{IsTextOf, reply_to, number_in}
-use Rattle.session_loop.proofs.StepLemmas.{step_now, serves_or_memory, memory_step, keeps_still}
-
-pub ages_same : (old new : Health) → new ≡ old → Ages old new
-ages_same old new same = subst (λ (h : Health). Ages old h) (sym same) (ages_still old)
+use Rattle.session_loop.proofs.StepLemmas.{step_now, serves_or_memory, memory_step, keeps_still, ages_same, free_points}
 
 -- AFTER.
 
@@ -48,16 +45,18 @@ accepted_at : (t : Bool) (number : ℕ) → accepted (if t then Reached number e
 accepted_at true number = refl
 accepted_at false number = refl
 
-pub after_step : (old new : Stored) (wanted number : ℕ) → number ≡ (state_now new.told).number → number < 2 ^ 64 → Keeps old.told new.told → IsAlike old.told new.told → Ages old.health new.health
+pub after_step : (old new : Stored) (wanted number : ℕ) → number ≡ (state_now new.told).number → number < 2 ^ 64 → Keeps old.told new.told → IsAlike old.told new.told → new.health ≡ old.health
     → (request : Request) (moment : ℤ) → Means request moment (statement.After wanted)
     → Step old (answer_to request moment (if nat_le wanted number then Reached number else NotReached number) (Some number)) new
-after_step old new wanted number is small kept alike ages request moment means =
+after_step old new wanted number is small kept alike still request moment means =
     let reply : Reply = if nat_le wanted number then Reached number else NotReached number in
-    step_now old new (answer_to request moment reply (Some number)) kept alike ages (accepted_at (nat_le wanted number) number) (readable_at (nat_le wanted number) number small)
-    (λ same. absurd (no_fault_at (nat_le wanted number) number same))
-    (λ tells. inr (record {
+    step_now old new (answer_to request moment reply (Some number)) kept alike (ages_same old.health new.health still) (accepted_at (nat_le wanted number) number) (readable_at (nat_le wanted number) number small)
+    (λ same. absurd (no_fault_at (nat_le wanted number) number same)) (λ other. still)
+    (inr (record {
       asks = statement.After wanted;
       means = means;
+      points = (state_now new.told).points;
+      are_told = λ tells. refl;
       reply = ap (λ (n : ℕ). if nat_le wanted n then Reached n else NotReached n) is;
       number = named_at (nat_le wanted number) number;
       entry_made = refl;
@@ -91,85 +90,101 @@ no_series_fault : (held : ℕ) → SeriesFull held ≡ DeviceFault → ⊥
 no_series_fault held same = cc
 
 conflict_given : (told : Told) (points : List Point) (request : Request) (moment : ℤ) (field : List ℕ) (held : Kind) (number : ℕ) → Means request moment (statement.Write points)
-    → (let found : Conflict = record { field = field; held = held } in conflict (state_now told).points points ≡ Some found) → number ≡ (state_now told).number
-    → Is_machines (state_now told) told.client (answer_to request moment (TypeConflict field held number) (Some number)) None
+    → Conflicts points told (record { field = field; held = held }) → number ≡ (state_now told).number
+    → Is_machines told.tells (state_now told) told.client (answer_to request moment (TypeConflict field held number) (Some number)) None
 conflict_given told points request moment field held number means found is =
     let state : State = state_now told in
-    let served = ap (serve_batch state.number told.client points) found in
+    let served = ap (serve_batch state.number told.client points) found.in_conflict in
     record {
       asks = statement.Write points;
       means = means;
+      points = found.stored;
+      are_told = found.are_told;
       reply = ap (TypeConflict field held) is ∙ sym (ap (λ (s : Served). s.reply) served);
       number = refl;
       entry_made = sym (ap (λ (s : Served). s.entry) served);
     }
 
 full_given : (told : Told) (points : List Point) (request : Request) (moment : ℤ) → Means request moment (statement.Write points)
-    → conflict (state_now told).points points ≡ None → (state_now told).number ≡ 9223372036854775807
-    → Is_machines (state_now told) told.client (answer_to request moment HistoryFull (Some 9223372036854775807)) None
+    → (IsTrue told.tells → conflict (state_now told).points points ≡ None) → (state_now told).number ≡ 9223372036854775807
+    → Is_machines told.tells (state_now told) told.client (answer_to request moment HistoryFull (Some 9223372036854775807)) None
 full_given told points request moment means free is =
     let state : State = state_now told in
+    let open_to = free_points told.tells state.points points free in
     let test : nat_lt state.number 9223372036854775807 ≡ false = grind (arith, nat_tests) in
     let yes : Served = record { reply = Accepted (state.number + 1); entry = Some (Write_entry told.client points) } in
     let no : Served = record { reply = HistoryFull; entry = None } in
-    let served = ap (serve_batch state.number told.client points) free ∙ ap (λ (t : Bool). if t then yes else no) test in
+    let served = ap (serve_batch state.number told.client points) open_to.free ∙ ap (λ (t : Bool). if t then yes else no) test in
     record {
       asks = statement.Write points;
       means = means;
+      points = open_to.points;
+      are_told = open_to.are_told;
       reply = sym (ap (λ (s : Served). s.reply) served);
       number = refl;
       entry_made = sym (ap (λ (s : Served). s.entry) served);
     }
 
--- what was told, with the history that it has
-told_here : (told : Told) → told_at told told.history ≡ told
-told_here told = refl
+module _ (old new : Stored) (points : List Point) (bytes : List ℕ) (kept : Keeps old.told new.told) (alike : IsAlike old.told new.told) (ages : Ages old.health new.health) where
+  abbrev Refuses : WriteFault → Type 0
+  Refuses why = IsTextOf (reply_to why) bytes → IsReadable (reply_to why) → WriteHasCause points new.told old.health new.health why
+      → ((why ≡ fault.Fault → ⊥) → new.health ≡ old.health) → Serves old (statement.Write points) bytes (number_in why) new
 
-pub refused_serves : (old new : Stored) (points : List Point) (bytes : List ℕ) (why : WriteFault) → IsTextOf (reply_to why) bytes → IsReadable (reply_to why)
-    → Keeps old.told new.told → IsAlike old.told new.told → Ages old.health new.health → WriteHasCause points new.told old.health new.health why
-    → Serves old (statement.Write points) bytes (number_in why) new
-refused_serves old new points bytes (fault.TypeConflict field held number) spelled readable kept alike ages cause =
-    serves_or_memory old new (statement.Write points) bytes (TypeConflict field held number) (Some number) spelled kept alike ages (inr (ap Some cause.1)) (λ request moment means.
-    step_now old new (answer_to request moment (TypeConflict field held number) (Some number)) kept alike ages refl readable (λ same. absurd (no_conflict_fault field held number same))
-    (λ tells. inr (conflict_given new.told points request moment field held number means (cause.0 tells) cause.1)))
-refused_serves old new points bytes fault.HistoryFull spelled readable kept alike ages cause =
-    serves_or_memory old new (statement.Write points) bytes HistoryFull (Some 9223372036854775807) spelled kept alike ages (inr (ap Some (sym cause.1))) (λ request moment means.
-    step_now old new (answer_to request moment HistoryFull (Some 9223372036854775807)) kept alike ages refl tt (λ same. absurd (no_full_fault same))
-    (λ tells. inr (full_given new.told points request moment means (cause.0 tells) cause.1)))
-refused_serves old new points bytes (fault.SeriesFull held) spelled readable kept alike ages cause =
-    serves_or_memory old new (statement.Write points) bytes (SeriesFull held) None spelled kept alike ages (inl refl) (λ request moment means.
-    step_now old new (answer_to request moment (SeriesFull held) None) kept alike ages refl readable (λ same. absurd (no_series_fault held same))
-    (λ tells. inl (record { aside = tt; cause = (points, means, cause.1); number = inl refl })))
-refused_serves old new points bytes (fault.CacheFull held) spelled readable kept alike ages cause =
-    serves_or_memory old new (statement.Write points) bytes (CacheFull held) None spelled kept alike ages (inl refl) (λ request moment means.
-    step_now old new (answer_to request moment (CacheFull held) None) kept alike ages refl readable (λ same. absurd (no_cache_fault held same))
-    (λ tells. inl (record { aside = tt; cause = (points, means, cause.1); number = inl refl })))
-refused_serves old new points bytes fault.Memory spelled readable kept alike ages cause =
-    serves_or_memory old new (statement.Write points) bytes OutOfMemory None spelled kept alike ages (inl refl) (λ request moment means. memory_step old new request moment None kept alike ages (inl refl))
-refused_serves old new points bytes fault.Fault spelled readable kept alike ages cause =
-    serves_or_memory old new (statement.Write points) bytes DeviceFault None spelled kept alike ages (inl refl) (λ request moment means.
-    step_now old new (answer_to request moment DeviceFault None) kept alike ages refl tt (λ same. cause.rose)
-    (λ tells. inl (record { aside = tt; cause = tt; number = inl refl })))
+  pub refused_serves : (why : WriteFault) → Refuses why
+  refused_serves (fault.TypeConflict field held number) spelled readable cause quiet =
+      let still = quiet (λ same. cc same) in
+      serves_or_memory old new (statement.Write points) bytes (TypeConflict field held number) (Some number) spelled kept alike (λ long. still) (inr (ap Some cause.1)) (λ request moment means.
+      step_now old new (answer_to request moment (TypeConflict field held number) (Some number)) kept alike ages refl readable (λ same. absurd (no_conflict_fault field held number same))
+      (λ other. still) (inr (conflict_given new.told points request moment field held number means cause.0 cause.1)))
+  refused_serves fault.HistoryFull spelled readable cause quiet =
+      let still = quiet (λ same. cc same) in
+      serves_or_memory old new (statement.Write points) bytes HistoryFull (Some 9223372036854775807) spelled kept alike (λ long. still) (inr (ap Some (sym cause.1))) (λ request moment means.
+      step_now old new (answer_to request moment HistoryFull (Some 9223372036854775807)) kept alike ages refl tt (λ same. absurd (no_full_fault same))
+      (λ other. still) (inr (full_given new.told points request moment means cause.0 cause.1)))
+  refused_serves (fault.SeriesFull held) spelled readable cause quiet =
+      let still = quiet (λ same. cc same) in
+      serves_or_memory old new (statement.Write points) bytes (SeriesFull held) None spelled kept alike (λ long. still) (inl refl) (λ request moment means.
+      step_now old new (answer_to request moment (SeriesFull held) None) kept alike ages refl readable (λ same. absurd (no_series_fault held same))
+      (λ other. still) (inl (record { aside = tt; cause = (points, means, cause.1); number = inl refl })))
+  refused_serves (fault.CacheFull held) spelled readable cause quiet =
+      let still = quiet (λ same. cc same) in
+      serves_or_memory old new (statement.Write points) bytes (CacheFull held) None spelled kept alike (λ long. still) (inl refl) (λ request moment means.
+      step_now old new (answer_to request moment (CacheFull held) None) kept alike ages refl readable (λ same. absurd (no_cache_fault held same))
+      (λ other. still) (inl (record { aside = tt; cause = (points, means, cause.2); number = inl refl })))
+  refused_serves fault.Memory spelled readable cause quiet =
+      let still = quiet (λ same. cc same) in
+      serves_or_memory old new (statement.Write points) bytes OutOfMemory None spelled kept alike (λ long. still) (inl refl)
+      (λ request moment means. memory_step old new request moment None kept alike still (inl refl))
+  refused_serves fault.Fault spelled readable cause quiet =
+      serves_or_memory old new (statement.Write points) bytes DeviceFault None spelled kept alike (λ long. absurd long) (inl refl) (λ request moment means.
+      step_now old new (answer_to request moment DeviceFault None) kept alike ages refl tt (λ same. cause.0.rose)
+      (λ other. absurd (other refl)) (inl (record { aside = tt; cause = tt; number = inl refl })))
 
 -- A request that asks the store nothing.
 
 pub still_kept : (stored : Stored) → IsAlike stored.told stored.told
 still_kept stored = record { own = refl; out = refl }
 
-pub refusal_serves : (stored : Stored) (refusal : Refusal) (bytes : List ℕ) → IsTextOf (Refused refusal) bytes → IsReadable (Refused refusal) → Serves stored (statement.Refused refusal) bytes None stored
-refusal_serves stored refusal bytes spelled readable =
-    serves_or_memory stored stored (statement.Refused refusal) bytes (Refused refusal) None spelled (keeps_still stored.told) (still_kept stored) (ages_still stored.health) (inl refl) (λ request moment means.
-    step_now stored stored (answer_to request moment (Refused refusal) None) (keeps_still stored.told) (still_kept stored) (ages_still stored.health) refl readable (λ same. absurd (no_refused_fault refusal same))
-    (λ tells. inr (record { asks = statement.Refused refusal; means = means; reply = refl; number = refl; entry_made = refl })))
+pub refusal_serves : (stored : Stored) (refusal : Refusal) (bytes : List ℕ) → bytes ≡ text (Refused refusal) → IsReadable (Refused refusal) → Serves stored (statement.Refused refusal) bytes None stored
+refusal_serves stored refusal bytes spelled readable = record {
+  reply = Refused refusal;
+  spelled = spelled;
+  step = λ request moment means.
+      step_now stored stored (answer_to request moment (Refused refusal) None) (keeps_still stored.told) (still_kept stored) (ages_still stored.health) refl readable (λ same. absurd (no_refused_fault refusal same))
+      (λ other. refl) (inr (record { asks = statement.Refused refusal; means = means; points = (state_now stored.told).points; are_told = λ tells. refl; reply = refl; number = refl; entry_made = refl }));
+}
   where
     no_refused_fault : (refusal : Refusal) → Refused refusal ≡ DeviceFault → ⊥
     no_refused_fault refusal same = cc
 
-pub not_built_serves : (stored : Stored) (bytes : List ℕ) → IsTextOf NotBuilt bytes → Serves stored statement.NotBuilt bytes None stored
-not_built_serves stored bytes spelled =
-    serves_or_memory stored stored statement.NotBuilt bytes NotBuilt None spelled (keeps_still stored.told) (still_kept stored) (ages_still stored.health) (inl refl) (λ request moment means.
-    step_now stored stored (answer_to request moment NotBuilt None) (keeps_still stored.told) (still_kept stored) (ages_still stored.health) refl tt (λ same. absurd (no_built_fault same))
-    (λ tells. inr (record { asks = statement.NotBuilt; means = means; reply = refl; number = refl; entry_made = refl })))
+pub not_built_serves : (stored : Stored) (bytes : List ℕ) → bytes ≡ text NotBuilt → Serves stored statement.NotBuilt bytes None stored
+not_built_serves stored bytes spelled = record {
+  reply = NotBuilt;
+  spelled = spelled;
+  step = λ request moment means.
+      step_now stored stored (answer_to request moment NotBuilt None) (keeps_still stored.told) (still_kept stored) (ages_still stored.health) refl tt (λ same. absurd (no_built_fault same))
+      (λ other. refl) (inr (record { asks = statement.NotBuilt; means = means; points = (state_now stored.told).points; are_told = λ tells. refl; reply = refl; number = refl; entry_made = refl }));
+}
   where
     no_built_fault : NotBuilt ≡ DeviceFault → ⊥
     no_built_fault same = cc
@@ -177,4 +192,4 @@ not_built_serves stored bytes spelled =
 -- there was no memory to read a request
 pub unread_serves : (stored : Stored) (bytes : List ℕ) (error : AllocError) → bytes ≡ text OutOfMemory → ServesRead stored (Err error) bytes None stored
 unread_serves stored bytes error spelled =
-    (OutOfMemory, spelled, λ request moment. memory_step stored stored request moment None (keeps_still stored.told) (still_kept stored) (ages_still stored.health) (inl refl))
+    (OutOfMemory, spelled, λ request moment. memory_step stored stored request moment None (keeps_still stored.told) (still_kept stored) refl (inl refl))

@@ -1,7 +1,8 @@
 -- What a step of a session is, and what steps one after another are.
-use Rattle.std.proofs.Common.{◌≡◌, ◌<◌, ◌≤◌, ◌+◌, ◌^◌, ℕ, zero, suc, ℤ, min, Bool, true, nat_lt, List, [], ◌∷◌, ◌++◌, length, take, refl, sym, ap, ◌∙◌, subst, append_assoc, arith, inl, inr, ◌⊎◌, Option, Some, None, IfSome, IsTrue, length-append, slice_get, All, if◌then◌else◌}
+use Rattle.std.proofs.Common.{◌≡◌, ◌≢◌, ◌<◌, ◌≤◌, ◌+◌, ◌^◌, ℕ, zero, suc, ℤ, min, Bool, true, false, nat_lt, List, [], ◌∷◌, ◌++◌, length, take, refl, sym, ap, ◌∙◌, subst, append_assoc, arith, inl, inr, ◌⊎◌, Option, Some, None, IfSome, IsTrue, length-append, slice_get, All, if◌then◌else◌}
 use Rattle.std.specs.Prelude.{IsSome, IsSomeAnd}
 use Rattle.std.specs.List.{flat_map}
+use Rattle.std.proofs.lemmas.Bool.{false≢true}
 use Rattle.std.proofs.lemmas.Bool.Decides.{nat_tests}
 use Rattle.std.proofs.lemmas.List.{append-nil, take_all, take-append-le}
 use Rattle.std.proofs.lemmas.List.Elements.{All-nil, All-cons}
@@ -15,6 +16,7 @@ use Rattle.point_model.specs.declared.entry.Entry.TheVariants.{Write as Write_en
 use Rattle.point_model.specs.Acceptance.{Conflict, conflict}
 use Rattle.store_trait.specs.Told.{Told, Limits, Keeps, IsAlike, IsLater, state_now}
 use Rattle.store_trait.specs.Calls.Write.{Accepts, PassesCache, PassesSeries}
+use Rattle.point_model.specs.Points.{Points}
 use Rattle.session_model.specs.declared.statement.Statement.{Statement}
 use Rattle.session_model.specs.declared.statement.Statement.TheVariants as statement
 use Rattle.session_model.specs.Lines.{Request}
@@ -25,8 +27,8 @@ use Rattle.session_model.specs.Replies.Reply.{Accepted, Found, Reached, NotReach
 use Rattle.session_model.specs.Machine.{Answer, Served, Serves as Is_machines, IsAside, serve_batch}
 use Rattle.session_model.specs.Explained.{IsGivenAt, TakePlaces}
 use Rattle.session_loop.specs.Sessions.{is_fault, faults_in}
-use Rattle.session_loop.specs.Steps.{Stored, Step, Steps, Serves, ReplyHasCause, HasCause, told_at, answer_to}
-use Rattle.session_loop.specs.Texts.{IsTextOf}
+use Rattle.session_loop.specs.Steps.{Stored, Step, Steps, Serves, ReplyHasCause, HasCause, HasCauseAt, answer_to}
+use Rattle.session_loop.specs.Texts.{IsTextOf, IsLong}
 
 -- Histories.
 
@@ -40,22 +42,22 @@ entry_front history more place None h = h
 entry_front history more place (Some entry) h = get_front history more place entry h
 
 -- what was given in a history is given in a longer one
-pub given_longer : (Cause : List Entry → Answer → Type 0) (start : State) (history more : List Entry) (client : ℕ) (answer : Answer) (place : ℕ)
-    → IsGivenAt Cause start history client answer place → IsGivenAt Cause start (history ++ more) client answer place
-given_longer Cause start history more client answer place given =
+pub given_longer : (tells : Bool) (Cause : List Entry → Answer → Type 0) (start : State) (history more : List Entry) (client : ℕ) (answer : Answer) (place : ℕ)
+    → IsGivenAt tells Cause start history client answer place → IsGivenAt tells Cause start (history ++ more) client answer place
+given_longer tells Cause start history more client answer place given =
     let sum = length-append history more in
     let low = given.0 in
     let front : take place history ≡ take place (history ++ more) = sym (take-append-le place history more given.0) in (
       omega arith,
       elim given.1 [
         | inl aside ↦ inl (subst (λ (h : List Entry). IsAside (Cause h) (state_after start h) answer) front aside)
-        | inr serves ↦ inr (serves.0, subst (λ (h : List Entry). Is_machines (state_after start h) client answer serves.0) front serves.1, entry_front history more place serves.0 serves.2)
+        | inr serves ↦ inr (serves.0, subst (λ (h : List Entry). Is_machines tells (state_after start h) client answer serves.0) front serves.1, entry_front history more place serves.0 serves.2)
       ],
     )
 
-pub given_by : (First Second : List Entry → Answer → Type 0) (start : State) (history : List Entry) (client : ℕ) (answer : Answer) (place : ℕ)
-    → ((before : List Entry) → First before answer → Second before answer) → IsGivenAt First start history client answer place → IsGivenAt Second start history client answer place
-given_by First Second start history client answer place weaker given = (
+pub given_by : (tells : Bool) (First Second : List Entry → Answer → Type 0) (start : State) (history : List Entry) (client : ℕ) (answer : Answer) (place : ℕ)
+    → ((before : List Entry) → First before answer → Second before answer) → IsGivenAt tells First start history client answer place → IsGivenAt tells Second start history client answer place
+given_by tells First Second start history client answer place weaker given = (
   given.0,
   elim given.1 [
     | inl aside ↦ inl (record { aside = aside.aside; cause = weaker (take place history) aside.cause; number = aside.number })
@@ -63,10 +65,10 @@ given_by First Second start history client answer place weaker given = (
   ],
 )
 
-places_later : (Cause : List Entry → Answer → Type 0) (start : State) (history : List Entry) (client least most : ℕ) (answers : List Answer)
-    → least ≤ most → TakePlaces Cause start history client most answers → TakePlaces Cause start history client least answers
-places_later Cause start history client least most [] low places = places
-places_later Cause start history client least most (answer ∷ answers) low places = (places.0, let high = places.1 in omega arith, places.2, places.3)
+places_later : (tells : Bool) (Cause : List Entry → Answer → Type 0) (start : State) (history : List Entry) (client least most : ℕ) (answers : List Answer)
+    → least ≤ most → TakePlaces tells Cause start history client most answers → TakePlaces tells Cause start history client least answers
+places_later tells Cause start history client least most [] low places = places
+places_later tells Cause start history client least most (answer ∷ answers) low places = (places.0, let high = places.1 in omega arith, places.2, places.3)
 
 -- What a store keeps.
 
@@ -75,6 +77,8 @@ keeps_still told = record {
   client = refl;
   start = refl;
   tells = refl;
+  is_alone = refl;
+  alone = λ alone owns. owns;
   limits = refl;
   history = record { since = []; begins = sym (append-nil told.history) };
   series = omega arith;
@@ -85,6 +89,8 @@ keeps_then a b c first second = record {
   client = second.client ∙ first.client;
   start = second.start ∙ first.start;
   tells = second.tells ∙ first.tells;
+  is_alone = second.is_alone ∙ first.is_alone;
+  alone = λ alone owns. second.alone alone (first.alone (subst (λ (t : Bool). IsTrue t) second.is_alone alone) owns);
   limits = second.limits ∙ first.limits;
   history = record {
     since = first.history.since ++ second.history.since;
@@ -102,37 +108,34 @@ some_by : {X : Type 0} (a b : Option X) (P Q : X → Type 0) → b ≡ a → ((x
 some_by None b P Q same weaker h = absurd h
 some_by (Some x) b P Q same weaker h = subst (λ (o : Option _). IsSomeAnd o Q) (sym same) (weaker x h)
 
-cache_passes : (first second : Told) (before : List Entry) (points : List Point) (held : ℕ) (limits : Limits)
-    → PassesCache points held (told_at first before) limits → PassesCache points held (told_at second before) limits
-cache_passes first second before points held limits passes = record { are_held = passes.are_held; passes = passes.passes }
-
-series_passes : (first second : Told) (before : List Entry) (points : List Point) (held : ℕ) → first.series ≤ second.series → (limits : Limits)
-    → PassesSeries points held (told_at first before) limits → PassesSeries points held (told_at second before) limits
-series_passes first second before points held more limits passes = record {
+series_passes : (series more : ℕ) (before : List Entry) (points : List Point) (held : ℕ) → series ≤ more → (limits : Limits)
+    → PassesSeries points held series before limits → PassesSeries points held more before limits
+series_passes series more before points held low limits passes = record {
   new = passes.new;
   are_new = passes.are_new;
-  are_held = (let low = passes.are_held in omega arith);
+  are_held = (let most = passes.are_held in omega arith);
   passes = passes.passes;
 }
 
--- a cause stays one
-pub cause_later : (first second : Told) (before : List Entry) (answer : Answer) (reply : Reply) → Keeps first second → ReplyHasCause first before answer reply → ReplyHasCause second before answer reply
-cause_later first second before answer OutOfMemory kept cause = tt
-cause_later first second before answer DeviceFault kept cause = tt
-cause_later first second before answer (Damaged file offset) kept cause =
-    (subst (λ (o : Option Limits). IsSome o) (sym kept.limits) cause.0, kept.tells ∙ cause.1)
-cause_later first second before answer (CacheFull held) kept cause =
-    (cause.0, cause.1, some_by first.limits second.limits (PassesCache cause.0 held (told_at first before)) (PassesCache cause.0 held (told_at second before)) kept.limits (cache_passes first second before cause.0 held) cause.2)
-cause_later first second before answer (SeriesFull held) kept cause =
-    (cause.0, cause.1, some_by first.limits second.limits (PassesSeries cause.0 held (told_at first before)) (PassesSeries cause.0 held (told_at second before)) kept.limits (series_passes first second before cause.0 held kept.series) cause.2)
-cause_later first second before answer (Accepted number) kept cause = cause
-cause_later first second before answer (Found number tables) kept cause = cause
-cause_later first second before answer (Reached number) kept cause = cause
-cause_later first second before answer (NotReached number) kept cause = cause
-cause_later first second before answer NotBuilt kept cause = cause
-cause_later first second before answer (Refused refusal) kept cause = cause
-cause_later first second before answer (TypeConflict field held number) kept cause = cause
-cause_later first second before answer HistoryFull kept cause = cause
+-- a cause stays one while the limits stay and no series goes
+pub cause_later : (tells tells' : Bool) (limits limits' : Option Limits) (series series' : ℕ) (before : List Entry) (answer : Answer) (reply : Reply)
+    → tells' ≡ tells → limits' ≡ limits → series ≤ series' → ReplyHasCause tells limits series before answer reply → ReplyHasCause tells' limits' series' before answer reply
+cause_later tells tells' limits limits' series series' before answer OutOfMemory told limited more cause = tt
+cause_later tells tells' limits limits' series series' before answer DeviceFault told limited more cause = tt
+cause_later tells tells' limits limits' series series' before answer (Damaged file offset) told limited more cause =
+    (subst (λ (o : Option Limits). IsSome o) (sym limited) cause.0, told ∙ cause.1)
+cause_later tells tells' limits limits' series series' before answer (CacheFull held) told limited more cause =
+    (cause.0, cause.1, some_by limits limits' (PassesCache cause.0 held before) (PassesCache cause.0 held before) limited (λ l passes. passes) cause.2)
+cause_later tells tells' limits limits' series series' before answer (SeriesFull held) told limited more cause =
+    (cause.0, cause.1, some_by limits limits' (PassesSeries cause.0 held series before) (PassesSeries cause.0 held series' before) limited (series_passes series series' before cause.0 held more) cause.2)
+cause_later tells tells' limits limits' series series' before answer (Accepted number) told limited more cause = cause
+cause_later tells tells' limits limits' series series' before answer (Found number tables) told limited more cause = cause
+cause_later tells tells' limits limits' series series' before answer (Reached number) told limited more cause = cause
+cause_later tells tells' limits limits' series series' before answer (NotReached number) told limited more cause = cause
+cause_later tells tells' limits limits' series series' before answer NotBuilt told limited more cause = cause
+cause_later tells tells' limits limits' series series' before answer (Refused refusal) told limited more cause = cause
+cause_later tells tells' limits limits' series series' before answer (TypeConflict field held number) told limited more cause = cause
+cause_later tells tells' limits limits' series series' before answer HistoryFull told limited more cause = cause
 
 -- Steps, one after another.
 
@@ -144,7 +147,8 @@ pub record Come (old : Stored) (answers : List Answer) (new : Stored) : Type 0 w
   pub readable : All (λ answer. IsReadable answer.reply) answers
   pub ages : Ages old.health new.health
   pub faults : min (old.health.faults + faults_in answers) last_count ≤ new.health.faults
-  pub places : IsTrue new.told.tells → TakePlaces (HasCause new.told) new.told.start new.told.history new.told.client (length old.told.history) answers
+  pub quiet : faults_in answers ≡ 0 → new.health ≡ old.health
+  pub places : TakePlaces new.told.tells (HasCauseAt new.told) new.told.start new.told.history new.told.client (length old.told.history) answers
 
 fault_counted : (reply : Reply) (old new : Health) → Ages old new → (reply ≡ DeviceFault → Rose old.faults new.faults) → min (old.faults + (if is_fault reply then 1 else 0)) last_count ≤ new.faults
 fault_counted DeviceFault old new ages rose = rose refl
@@ -161,18 +165,37 @@ fault_counted (Damaged file offset) old new ages rose = let later = ages.later i
 fault_counted (CacheFull held) old new ages rose = let later = ages.later in omega arith
 fault_counted (SeriesFull held) old new ages rose = let later = ages.later in omega arith
 
--- the first place, seen from the end
-first_place : (old mid new : Stored) (answer : Answer) → (step : Step old answer mid) → Keeps mid.told new.told → IsTrue new.told.tells
-    → IsGivenAt (HasCause new.told) new.told.start new.told.history new.told.client answer step.place
-first_place old mid new answer step kept tells =
-    let here = step.given (subst (λ (b : Bool). IsTrue b) kept.tells tells) in
-    let longer_one = given_longer (HasCause mid.told) mid.told.start mid.told.history kept.history.since mid.told.client answer step.place here in
-    let weaker = given_by (HasCause mid.told) (HasCause new.told) mid.told.start (mid.told.history ++ kept.history.since) mid.told.client answer step.place
-    (λ before cause. cause_later mid.told new.told before answer answer.reply kept cause) longer_one in
-    let history : mid.told.history ++ kept.history.since ≡ new.told.history = sym kept.history.begins in
-    subst (λ (s : State). IsGivenAt (HasCause new.told) s new.told.history new.told.client answer step.place) (sym kept.start)
-    (subst (λ (h : List Entry). IsGivenAt (HasCause new.told) mid.told.start h new.told.client answer step.place) history
-    (subst (λ (n : ℕ). IsGivenAt (HasCause new.told) mid.told.start (mid.told.history ++ kept.history.since) n answer step.place) (sym kept.client) weaker))
+none_in_first : (fault : Bool) (more : ℕ) → (if fault then 1 else 0) + more ≡ 0 → fault ≡ true → ⊥
+none_in_first true more none is = omega (arith, none)
+none_in_first false more none is = cc is
+
+none_in_rest : (fault : Bool) (more : ℕ) → (if fault then 1 else 0) + more ≡ 0 → more ≡ 0
+none_in_rest true more none = omega (arith, none)
+none_in_rest false more none = omega (arith, none)
+
+no_fault_told : (reply : Reply) (more : ℕ) → (if is_fault reply then 1 else 0) + more ≡ 0 → reply ≡ DeviceFault → ⊥
+no_fault_told reply more none same = none_in_first (is_fault reply) more none (ap is_fault same)
+
+-- what was given over a store is given in a longer history, with the same start, limits and client, and no fewer series
+pub given_in : (mid : Told) (tells : Bool) (limits : Option Limits) (series : ℕ) (start : State) (history : List Entry) (client : ℕ) (answer : Answer) (place : ℕ)
+    → tells ≡ mid.tells → limits ≡ mid.limits → mid.series ≤ series → start ≡ mid.start → IsLater mid.history history → client ≡ mid.client
+    → IsGivenAt mid.tells (HasCauseAt mid) mid.start mid.history mid.client answer place → IsGivenAt tells (HasCause tells limits series) start history client answer place
+given_in mid tells limits series start history client answer place told limited more begins later named here =
+    let Cause = HasCause tells limits series in
+    let longer_one = given_longer mid.tells (HasCauseAt mid) mid.start mid.history later.since mid.client answer place here in
+    let weaker = given_by mid.tells (HasCauseAt mid) Cause mid.start (mid.history ++ later.since) mid.client answer place
+    (λ before cause. cause_later mid.tells tells mid.limits limits mid.series series before answer answer.reply told limited more cause) longer_one in
+    let whole : mid.history ++ later.since ≡ history = sym later.begins in
+    subst (λ (b : Bool). IsGivenAt b Cause start history client answer place) (sym told)
+    (subst (λ (s : State). IsGivenAt mid.tells Cause s history client answer place) (sym begins)
+    (subst (λ (h : List Entry). IsGivenAt mid.tells Cause mid.start h client answer place) whole
+    (subst (λ (n : ℕ). IsGivenAt mid.tells Cause mid.start (mid.history ++ later.since) n answer place) (sym named) weaker)))
+
+-- what was given is given since, where a store keeps what it keeps
+pub given_kept : (mid new : Told) (answer : Answer) (place : ℕ) → Keeps mid new → IsGivenAt mid.tells (HasCauseAt mid) mid.start mid.history mid.client answer place
+    → IsGivenAt new.tells (HasCauseAt new) new.start new.history new.client answer place
+given_kept mid new answer place kept here =
+    given_in mid new.tells new.limits new.series new.start new.history new.client answer place kept.tells kept.limits kept.series kept.start kept.history kept.client here
 
 pub come : (old : Stored) (answers : List Answer) (new : Stored) → Steps old answers new → Come old answers new
 come old [] new steps = subst (λ (s : Stored). Come old [] s) (sym steps) (record {
@@ -182,7 +205,8 @@ come old [] new steps = subst (λ (s : Stored). Come old [] s) (sym steps) (reco
   readable = All-nil (λ (answer : Answer). IsReadable answer.reply);
   ages = ages_still old.health;
   faults = omega arith;
-  places = λ tells. tt;
+  quiet = λ none. refl;
+  places = tt;
 })
 come old (answer ∷ answers) new steps =
     let mid = steps.0 in
@@ -200,11 +224,14 @@ come old (answer ∷ answers) new steps =
           let more = rest.faults in
           let sum : faults_in (answer ∷ answers) ≡ (if is_fault answer.reply then 1 else 0) + faults_in answers = refl in omega arith
           );
-      places = λ tells. (
+      quiet = λ none.
+          rest.quiet (none_in_rest (is_fault answer.reply) (faults_in answers) none)
+          ∙ step.quiet (no_fault_told answer.reply (faults_in answers) none);
+      places = (
         step.place,
         step.from,
-        first_place old mid new answer step rest.kept tells,
-        places_later (HasCause new.told) new.told.start new.told.history new.told.client (step.place + length (accepted answer.reply)) (length mid.told.history) answers step.to (rest.places tells),
+        given_kept mid.told new.told answer step.place rest.kept step.given,
+        places_later new.told.tells (HasCauseAt new.told) new.told.start new.told.history new.told.client (step.place + length (accepted answer.reply)) (length mid.told.history) answers step.to rest.places,
       );
     }
 
@@ -212,33 +239,34 @@ come old (answer ∷ answers) new steps =
 
 -- what is given at the end of a history
 abbrev pub IsGivenNow : Told → Answer → Type 0
-IsGivenNow told answer = IsAside (HasCause told told.history) (state_now told) answer ⊎ Is_machines (state_now told) told.client answer None
+IsGivenNow told answer = IsAside (HasCauseAt told told.history) (state_now told) answer ⊎ Is_machines told.tells (state_now told) told.client answer None
 
-pub given_now : (told : Told) (answer : Answer) → IsGivenNow told answer → IsGivenAt (HasCause told) told.start told.history told.client answer (length told.history)
+pub given_now : (told : Told) (answer : Answer) → IsGivenNow told answer → IsGivenAt told.tells (HasCauseAt told) told.start told.history told.client answer (length told.history)
 given_now told answer given =
     let whole : told.history ≡ take (length told.history) told.history = sym (take_all (length told.history) told.history (omega arith)) in (
       omega arith,
       elim given [
-        | inl aside ↦ inl (subst (λ (h : List Entry). IsAside (HasCause told h) (state_after told.start h) answer) whole aside)
-        | inr serves ↦ inr (None, subst (λ (h : List Entry). Is_machines (state_after told.start h) told.client answer None) whole serves, tt)
+        | inl aside ↦ inl (subst (λ (h : List Entry). IsAside (HasCauseAt told h) (state_after told.start h) answer) whole aside)
+        | inr serves ↦ inr (None, subst (λ (h : List Entry). Is_machines told.tells (state_after told.start h) told.client answer None) whole serves, tt)
       ],
     )
 
 -- a step that makes no entry
 pub step_now : (old new : Stored) (answer : Answer) → Keeps old.told new.told → IsAlike old.told new.told → Ages old.health new.health
     → accepted answer.reply ≡ [] → IsReadable answer.reply → (answer.reply ≡ DeviceFault → Rose old.health.faults new.health.faults)
-    → (IsTrue new.told.tells → IsGivenNow new.told answer) → Step old answer new
-step_now old new answer kept alike ages none readable fault given = record {
+    → (answer.reply ≢ DeviceFault → new.health ≡ old.health) → IsGivenNow new.told answer → Step old answer new
+step_now old new answer kept alike ages none readable fault quiet given = record {
   kept = kept;
   out = alike.out;
   own = alike.own ∙ sym (append-nil old.told.own) ∙ ap (λ (l : List ℕ). old.told.own ++ l) (sym none);
   place = length new.told.history;
   from = longer old.told.history new.told.history kept.history;
   to = (let e = ap length none in omega arith);
-  given = λ tells. given_now new.told answer (given tells);
+  given = given_now new.told answer given;
   readable = readable;
   ages = ages;
   fault = fault;
+  quiet = quiet;
 }
 
 -- no number was told, or that of the last entry
@@ -248,23 +276,40 @@ IsNumberNow told number = (number ≡ None) ⊎ (number ≡ Some (state_now told
 no_memory_fault : OutOfMemory ≡ DeviceFault → ⊥
 no_memory_fault same = cc
 
+pub ages_same : (old new : Health) → new ≡ old → Ages old new
+ages_same old new same = subst (λ (h : Health). Ages old h) (sym same) (ages_still old)
+
 -- there was no memory for an answer
-pub memory_step : (old new : Stored) (request : Request) (moment : ℤ) (number : Option ℕ) → Keeps old.told new.told → IsAlike old.told new.told → Ages old.health new.health
+pub memory_step : (old new : Stored) (request : Request) (moment : ℤ) (number : Option ℕ) → Keeps old.told new.told → IsAlike old.told new.told → new.health ≡ old.health
     → IsNumberNow new.told number → Step old (answer_to request moment OutOfMemory number) new
-memory_step old new request moment number kept alike ages told =
-    step_now old new (answer_to request moment OutOfMemory number) kept alike ages refl tt (λ same. absurd (no_memory_fault same))
-    (λ tells. inl (record { aside = tt; cause = tt; number = told }))
+memory_step old new request moment number kept alike still told =
+    step_now old new (answer_to request moment OutOfMemory number) kept alike (ages_same old.health new.health still) refl tt (λ same. absurd (no_memory_fault same))
+    (λ other. still) (inl (record { aside = tt; cause = tt; number = told }))
 
 -- the bytes are a reply that the store's end gives, or tell that there was no memory for it
 pub serves_or_memory : (old new : Stored) (asks : Statement) (bytes : List ℕ) (reply : Reply) (number : Option ℕ) → IsTextOf reply bytes
-    → Keeps old.told new.told → IsAlike old.told new.told → Ages old.health new.health → IsNumberNow new.told number
+    → Keeps old.told new.told → IsAlike old.told new.told → (IsLong reply → new.health ≡ old.health) → IsNumberNow new.told number
     → ((request : Request) (moment : ℤ) → Means request moment asks → Step old (answer_to request moment reply number) new) → Serves old asks bytes number new
-serves_or_memory old new asks bytes reply number (inl spelled) kept alike ages told step = record { reply = reply; spelled = spelled; step = step }
-serves_or_memory old new asks bytes reply number (inr spelled) kept alike ages told step = record {
+serves_or_memory old new asks bytes reply number (inl spelled) kept alike still told step = record { reply = reply; spelled = spelled; step = step }
+serves_or_memory old new asks bytes reply number (inr spelled) kept alike still told step = record {
   reply = OutOfMemory;
-  spelled = spelled;
-  step = λ request moment means. memory_step old new request moment number kept alike ages told;
+  spelled = spelled.1;
+  step = λ request moment means. memory_step old new request moment number kept alike (still spelled.0) told;
 }
+
+-- Some points, which are the state's where those are told, take a batch that these take where they are told.
+pub record AreFree (tells : Bool) (stored : Points) (batch : List Point) : Type 0 where
+  pub points : Points
+  pub are_told : IsTrue tells → points ≡ stored
+  pub free : conflict points batch ≡ None
+
+free_in_nothing : (batch : List Point) → conflict [] batch ≡ None
+free_in_nothing [] = refl
+free_in_nothing (point ∷ batch) = free_in_nothing batch
+
+pub free_points : (tells : Bool) (stored : Points) (batch : List Point) → (IsTrue tells → conflict stored batch ≡ None) → AreFree tells stored batch
+free_points true stored batch free = record { points = stored; are_told = λ is. refl; free = free refl }
+free_points false stored batch free = record { points = []; are_told = λ is. absurd (false≢true is); free = free_in_nothing batch }
 
 get_seam : (before : List Entry) (entry : Entry) → slice_get (before ++ entry ∷ []) (length before) ≡ Some entry
 get_seam [] entry = refl
@@ -278,21 +323,24 @@ batch_served number client points found none low =
     let no : Served = record { reply = HistoryFull; entry = None } in
     ap (serve_batch number client points) none ∙ ap (λ (t : Bool). if t then yes else no) test
 
-entry_given : (Cause : List Entry → Answer → Type 0) (start : State) (before : List Entry) (client : ℕ) (request : Request) (moment : ℤ) (points : List Point) (number : ℕ)
-    → Means request moment (statement.Write points) → conflict (state_after start before).points points ≡ None
+entry_given : (tells : Bool) (Cause : List Entry → Answer → Type 0) (start : State) (before : List Entry) (client : ℕ) (request : Request) (moment : ℤ) (points : List Point) (number : ℕ)
+    → Means request moment (statement.Write points) → (IsTrue tells → conflict (state_after start before).points points ≡ None)
     → number ≡ (start.number + length before) + 1 → start.number + length before < 9223372036854775807
-    → IsGivenAt Cause start (before ++ Write_entry client points ∷ []) client (answer_to request moment (Accepted number) (Some number)) (length before)
-entry_given Cause start before client request moment points number means free is low =
+    → IsGivenAt tells Cause start (before ++ Write_entry client points ∷ []) client (answer_to request moment (Accepted number) (Some number)) (length before)
+entry_given tells Cause start before client request moment points number means free is low =
     let sum = length-append before (Write_entry client points ∷ []) in
     let state : State = state_after start before in
-    let served = batch_served state.number client points (conflict state.points points) free low in
+    let open_to = free_points tells state.points points free in
+    let served = batch_served state.number client points (conflict open_to.points points) open_to.free low in
     let whole : before ≡ take (length before) (before ++ Write_entry client points ∷ []) = sym (take-append_seam before (Write_entry client points ∷ [])) in (
       omega arith,
       inr (
         Some (Write_entry client points),
-        subst (λ (h : List Entry). Is_machines (state_after start h) client (answer_to request moment (Accepted number) (Some number)) (Some (Write_entry client points))) whole (record {
+        subst (λ (h : List Entry). Is_machines tells (state_after start h) client (answer_to request moment (Accepted number) (Some number)) (Some (Write_entry client points))) whole (record {
           asks = statement.Write points;
           means = means;
+          points = open_to.points;
+          are_told = open_to.are_told;
           reply = ap Accepted is ∙ sym (ap (λ (s : Served). s.reply) served);
           number = refl;
           entry_made = sym (ap (λ (s : Served). s.entry) served);
@@ -303,14 +351,15 @@ entry_given Cause start before client request moment points number means free is
 
 -- an entry was made of the batch
 pub accepted_step : (old new : Stored) (request : Request) (moment : ℤ) (points : List Point) (number : ℕ) → number < 2 ^ 64 → Means request moment (statement.Write points)
-    → Accepts points number old.told new.told → Keeps old.told new.told → Ages old.health new.health → Step old (answer_to request moment (Accepted number) (Some number)) new
-accepted_step old new request moment points number small means accepts kept ages =
+    → Accepts points number old.told new.told → Keeps old.told new.told → new.health ≡ old.health → Step old (answer_to request moment (Accepted number) (Some number)) new
+accepted_step old new request moment points number small means accepts kept still =
     let before = accepts.before in
     let sum = length-append before (Write_entry old.told.client points ∷ []) in
     let len = ap length accepts.entry in
     let given = accepts.given in
     let limit = accepts.limit in
     let starts = ap (λ (s : State). s.number) kept.start in
+    let answer : Answer = answer_to request moment (Accepted number) (Some number) in
     record {
       kept = kept;
       out = accepts.out;
@@ -318,14 +367,16 @@ accepted_step old new request moment points number small means accepts kept ages
       place = length before;
       from = longer old.told.history before accepts.later;
       to = omega arith;
-      given = λ tells. subst (λ (s : State). IsGivenAt (HasCause new.told) s new.told.history new.told.client (answer_to request moment (Accepted number) (Some number)) (length before)) (sym kept.start)
-          (subst (λ (c : ℕ). IsGivenAt (HasCause new.told) old.told.start new.told.history c (answer_to request moment (Accepted number) (Some number)) (length before)) (sym kept.client)
-          (subst (λ (h : List Entry). IsGivenAt (HasCause new.told) old.told.start h old.told.client (answer_to request moment (Accepted number) (Some number)) (length before)) (sym accepts.entry)
-          (entry_given (HasCause new.told) old.told.start before old.told.client request moment points number means
-          (accepts.accepted (subst (λ (b : Bool). IsTrue b) kept.tells tells)) (omega arith) (omega arith))));
+      given = subst (λ (b : Bool). IsGivenAt b (HasCauseAt new.told) new.told.start new.told.history new.told.client answer (length before)) (sym kept.tells)
+          (subst (λ (s : State). IsGivenAt old.told.tells (HasCauseAt new.told) s new.told.history new.told.client answer (length before)) (sym kept.start)
+          (subst (λ (c : ℕ). IsGivenAt old.told.tells (HasCauseAt new.told) old.told.start new.told.history c answer (length before)) (sym kept.client)
+          (subst (λ (h : List Entry). IsGivenAt old.told.tells (HasCauseAt new.told) old.told.start h old.told.client answer (length before)) (sym accepts.entry)
+          (entry_given old.told.tells (HasCauseAt new.told) old.told.start before old.told.client request moment points number means
+          accepts.accepted (omega arith) (omega arith)))));
       readable = small;
-      ages = ages;
+      ages = ages_same old.health new.health still;
       fault = λ same. absurd (no_accepted_fault number same);
+      quiet = λ other. still;
     }
   where
     no_accepted_fault : (number : ℕ) → Accepted number ≡ DeviceFault → ⊥

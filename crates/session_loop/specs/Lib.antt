@@ -1,4 +1,5 @@
 pub mod Asked
+pub mod Composed
 pub mod Cuts
 pub mod Gathered
 pub mod LineAsItComes

@@ -6,7 +6,7 @@ use Rattle.std.specs.Ordering.{is_lt}
 use Rattle.std.specs.Cmp.Lexicographic.{pointwise}
 use Rattle.std.specs.Bool.{MatchBool}
 use Rattle.std.specs.List.Sorted.{IsPermutation, IsSortedBy}
-use Rattle.point_model.specs.declared.condition.TagCond.TheVariants as condition
+use Rattle.point_model.specs.Conditions.{True}
 use Rattle.point_model.specs.declared.need.Need.{Need}
 use Rattle.point_model.specs.Rows.{Row}
 use Rattle.point_model.specs.Cursors.{Key, Shown}
@@ -71,7 +71,7 @@ TakesRows field shown old new = (left : List (List Row)) → shown.left ≡ Some
 
 -- what the need asks for is all that there is: every series, every time, ascending
 pub record AsksAll (need : Need) : Type 0 where
-  pub tags : need.tags ≡ condition.True
+  pub tags : need.tags ≡ True
   pub from : need.from ≡ negsuc 9223372036854775805
   pub to : need.to ≡ pos 9223372036854775806
   pub ascending : need.descending ≡ false

@@ -1,19 +1,20 @@
 -- What does a whole session owe its client?
-use Rattle.std.specs.Prelude.{◌≡◌, ℕ, ◌+◌, ◌≤◌, min, ℤ, Bool, true, false, IsTrue, List, [], ◌∷◌, ◌++◌, length, Option, IfSome, IsErrOf, Result, if◌then◌else◌}
+use Rattle.std.specs.Prelude.{◌≡◌, ◌≢◌, ℕ, ◌+◌, ◌≤◌, min, ℤ, Bool, true, false, List, [], ◌∷◌, ◌++◌, length, Option, IfSome, IsErrOf, Result, if◌then◌else◌}
 use Rattle.point_model.specs.declared.entry.Entry.{Entry}
 use Rattle.point_model.specs.Histories.{nothing}
 use Rattle.shard_disk.specs.Health.{Health, Ages, Failed, last_count}
 use Rattle.shard_disk.specs.declared.trouble.Trouble.{Trouble}
 use Rattle.shard_disk.specs.declared.trouble.Trouble.TheVariants as trouble
 use Rattle.session_io.specs.declared.report.Report.{Report}
-use Rattle.session_io.specs.declared.report.End.TheVariants.{Read}
+use Rattle.session_io.specs.declared.report.End.{End}
+use Rattle.session_io.specs.declared.report.End.TheVariants.{Read, SourceFault, SinkFault}
 use Rattle.session_io.specs.Streams.{Grows, Shrinks}
 use Rattle.store_trait.specs.Told.{Keeps}
 use Rattle.session_model.specs.Machine.{Answer}
 use Rattle.session_model.specs.Replies.{Reply}
 use Rattle.session_model.specs.Replies.Reply.{Accepted, Found, Reached, NotReached, NotBuilt, Refused, TypeConflict, HistoryFull, OutOfMemory, DeviceFault, Damaged, CacheFull, SeriesFull}
 use Rattle.session_model.specs.Explained.{Transcript, Dialogue, Records, IsTold, Explained, all_answers, own_numbers}
-use Rattle.session_loop.specs.Steps.{Stored, HasCause}
+use Rattle.session_loop.specs.Steps.{Stored, HasCauseAt}
 
 -- what a client's source, sink and clock tell at a moment
 pub record Told : Type 0 where
@@ -64,17 +65,18 @@ faults_in (answer ∷ answers) = (if is_fault answer.reply then 1 else 0) + faul
 
 -- What a session over a store did to it: the answers of a dialogue take their places in the history that the store told
 -- before and since, the numbers that became the client's are those that it was told were accepted, no view is left, and
--- the store's count of faults rose by no less than the answers that tell a fault.
+-- the store's count of faults rose by no less than the answers that tell a fault, and by nothing where none does.
 pub record IsDialogue (old new : Stored) (transcript : Transcript) (dialogue : Dialogue) : Type 0 where
   pub kept : Keeps old.told new.told
   pub opening : ℕ
   pub from : length old.told.history ≤ opening
   pub records : Records (new.told.start.number + opening) transcript dialogue
-  pub told : IsTrue new.told.tells → IsTold (HasCause new.told) new.told.start new.told.history new.told.client transcript dialogue opening
+  pub told : IsTold new.told.tells (HasCauseAt new.told) new.told.start new.told.history new.told.client transcript dialogue opening
   pub own : new.told.own ≡ old.told.own ++ own_numbers dialogue
   pub out : new.told.out ≡ old.told.out
   pub ages : Ages old.health new.health
   pub faults : min (old.health.faults + faults_in (all_answers dialogue)) last_count ≤ new.health.faults
+  pub quiet : faults_in (all_answers dialogue) ≡ 0 → new.health ≡ old.health
 
 -- What is told has grown by a transcript with this report, of a dialogue over the store. The bytes read are a front of
 -- what was left to read, and all of it where the session ended with the input.
@@ -90,7 +92,13 @@ pub record IsSession (before now : Told) (old new : Stored) (report : Report) : 
   pub dialogue : Dialogue
   pub is : IsDialogue old new transcript dialogue
 
--- Calls of a device that end in this answer: the count of its faults never falls, and a fault has raised it.
+-- Calls of a device that end in this answer: the count of its faults never falls, a fault has raised it, and nothing else has.
 pub record HasMet {T : Type 0} (result : Result T Trouble) (old new : Health) : Type 0 where
   pub ages : Ages old new
+  pub quiet : ¬ (IsErrOf result trouble.Fault) → new ≡ old
   pub fault : IsErrOf result trouble.Fault → Failed old new
+
+-- The health of the source is as it was but where the session ended by its fault, and so is the sink's.
+pub record IsQuietEnd (end : End) (source_old source_new sink_old sink_new : Health) : Type 0 where
+  pub source : end ≢ SourceFault → source_new ≡ source_old
+  pub sink : end ≢ SinkFault → sink_new ≡ sink_old

@@ -1,10 +1,10 @@
 -- What does one answer of a session do with its store?
-use Rattle.std.specs.Prelude.{◌≡◌, ℕ, ◌+◌, ◌≤◌, ℤ, false, IsTrue, List, [], ◌∷◌, ◌++◌, length, Option, IsSome, IsSomeAnd, Result, Ok, Err}
+use Rattle.std.specs.Prelude.{◌≡◌, ◌≢◌, ℕ, ◌+◌, ◌≤◌, ℤ, Bool, false, List, [], ◌∷◌, ◌++◌, length, Option, IsSome, IsSomeAnd, Result, Ok, Err}
 use Rattle.std.specs.declared.alloc.AllocError.{AllocError}
 use Rattle.tsdb_types.specs.declared.point.Point.{Point}
 use Rattle.shard_disk.specs.Health.{Health, Ages, Rose}
 use Rattle.point_model.specs.declared.entry.Entry.{Entry}
-use Rattle.store_trait.specs.Told.{Told, Keeps}
+use Rattle.store_trait.specs.Told.{Told, Limits, Keeps}
 use Rattle.store_trait.specs.Calls.Write.{PassesCache, PassesSeries}
 use Rattle.session_model.specs.declared.statement.Statement.{Statement}
 use Rattle.session_model.specs.declared.statement.Statement.TheVariants.{Write}
@@ -24,31 +24,32 @@ pub record Stored : Type 0 where
 abbrev pub stored : {S : Type 0} → (S → Told) → (S → Health) → S → Stored
 stored told health store = record { told = told store; health = health store }
 
--- what the store told, when its history was this
-abbrev pub told_at : Told → List Entry → Told
-told_at told history = record told { history = history }
+module _ (tells : Bool) (limits : Option Limits) (series : ℕ) (before : List Entry) where
+  -- Why a store with these limits gave a reply that is none of the machine's, behind these entries, when it held at most so many
+  -- series. That a device failed is told by the count of the store, and want of memory has no cause.
+  abbrev pub ReplyHasCause : Answer → Reply → Type 0
+  ReplyHasCause answer OutOfMemory = Unit {0}
+  ReplyHasCause answer DeviceFault = Unit {0}
+  ReplyHasCause answer (Damaged file offset) = IsSome limits × (tells ≡ false)
+  ReplyHasCause answer (CacheFull held) = (points : List Point) × Means answer.request answer.moment (Write points)
+      × IsSomeAnd limits (PassesCache points held before)
+  ReplyHasCause answer (SeriesFull held) = (points : List Point) × Means answer.request answer.moment (Write points)
+      × IsSomeAnd limits (PassesSeries points held series before)
+  ReplyHasCause answer (Accepted number) = ⊥
+  ReplyHasCause answer (Found number tables) = ⊥
+  ReplyHasCause answer (Reached number) = ⊥
+  ReplyHasCause answer (NotReached number) = ⊥
+  ReplyHasCause answer NotBuilt = ⊥
+  ReplyHasCause answer (Refused refusal) = ⊥
+  ReplyHasCause answer (TypeConflict field held number) = ⊥
+  ReplyHasCause answer HistoryFull = ⊥
 
--- Why a store gave a reply that is none of the machine's, behind these entries. That a device failed is told by the count of
--- the store, and want of memory has no cause.
-abbrev pub ReplyHasCause : Told → List Entry → Answer → Reply → Type 0
-ReplyHasCause told before answer OutOfMemory = Unit {0}
-ReplyHasCause told before answer DeviceFault = Unit {0}
-ReplyHasCause told before answer (Damaged file offset) = IsSome told.limits × (told.tells ≡ false)
-ReplyHasCause told before answer (CacheFull held) = (points : List Point) × Means answer.request answer.moment (Write points)
-    × IsSomeAnd told.limits (PassesCache points held (told_at told before))
-ReplyHasCause told before answer (SeriesFull held) = (points : List Point) × Means answer.request answer.moment (Write points)
-    × IsSomeAnd told.limits (PassesSeries points held (told_at told before))
-ReplyHasCause told before answer (Accepted number) = ⊥
-ReplyHasCause told before answer (Found number tables) = ⊥
-ReplyHasCause told before answer (Reached number) = ⊥
-ReplyHasCause told before answer (NotReached number) = ⊥
-ReplyHasCause told before answer NotBuilt = ⊥
-ReplyHasCause told before answer (Refused refusal) = ⊥
-ReplyHasCause told before answer (TypeConflict field held number) = ⊥
-ReplyHasCause told before answer HistoryFull = ⊥
+  abbrev pub HasCause : Answer → Type 0
+  HasCause answer = ReplyHasCause answer answer.reply
 
-abbrev pub HasCause : Told → List Entry → Answer → Type 0
-HasCause told before answer = ReplyHasCause told before answer answer.reply
+-- the same with what a store tells
+abbrev pub HasCauseAt : Told → List Entry → Answer → Type 0
+HasCauseAt told before answer = HasCause told.tells told.limits told.series before answer
 
 -- the answer takes its place in the history behind what the store knew before
 pub record Step (old : Stored) (answer : Answer) (new : Stored) : Type 0 where
@@ -58,10 +59,11 @@ pub record Step (old : Stored) (answer : Answer) (new : Stored) : Type 0 where
   pub place : ℕ
   pub from : length old.told.history ≤ place
   pub to : place + length (accepted answer.reply) ≤ length new.told.history
-  pub given : IsTrue new.told.tells → IsGivenAt (HasCause new.told) new.told.start new.told.history new.told.client answer place
+  pub given : IsGivenAt new.told.tells (HasCauseAt new.told) new.told.start new.told.history new.told.client answer place
   pub readable : IsReadable answer.reply
   pub ages : Ages old.health new.health
   pub fault : answer.reply ≡ DeviceFault → Rose old.health.faults new.health.faults
+  pub quiet : answer.reply ≢ DeviceFault → new.health ≡ old.health
 
 -- these answers, one after another
 abbrev pub Steps : Stored → List Answer → Stored → Type 0

@@ -7,11 +7,27 @@ use Rattle.point_model.specs.declared.fault.CursorFault.TheVariants as cursor_fa
 use Rattle.point_model.specs.Rows.{Row}
 use Rattle.session_model.specs.Machine.{tables_of}
 use Rattle.session_model.specs.Replies.{Reply, text}
-use Rattle.session_model.specs.Replies.Reply.{OutOfMemory, Found, TypeConflict, HistoryFull, SeriesFull, CacheFull, DeviceFault, Damaged}
+use Rattle.session_model.specs.Replies.Reply.{Accepted, Found, Reached, NotReached, NotBuilt, Refused, TypeConflict, HistoryFull, OutOfMemory, DeviceFault, Damaged, CacheFull, SeriesFull}
 
--- the bytes are the reply, or tell that there was no memory
+-- The reply may be longer than the room that is always there: it has names or rows.
+abbrev pub IsLong : Reply → Type 0
+IsLong (Found number tables) = Unit {0}
+IsLong (TypeConflict field held number) = Unit {0}
+IsLong (Accepted number) = ⊥
+IsLong (Reached number) = ⊥
+IsLong (NotReached number) = ⊥
+IsLong NotBuilt = ⊥
+IsLong (Refused refusal) = ⊥
+IsLong HistoryFull = ⊥
+IsLong OutOfMemory = ⊥
+IsLong DeviceFault = ⊥
+IsLong (Damaged file offset) = ⊥
+IsLong (CacheFull held) = ⊥
+IsLong (SeriesFull held) = ⊥
+
+-- the bytes are the reply, or tell that there was no memory for a long one
 abbrev pub IsTextOf : Reply → List ℕ → Type 0
-IsTextOf reply bytes = (bytes ≡ text reply) ⊎ (bytes ≡ text OutOfMemory)
+IsTextOf reply bytes = (bytes ≡ text reply) ⊎ (IsLong reply × (bytes ≡ text OutOfMemory))
 
 -- the reply to a batch that a store refused so
 abbrev pub reply_to : WriteFault → Reply

@@ -10,7 +10,7 @@ ghost use Rattle.session_loop.specs.LineAsItComes.{StandsFor};
 ghost use Rattle.session_loop.specs.Gathered.{Gathers};
 ghost use Rattle.session_loop.specs.Pendings.{Pends, HasEnded};
 ghost use Rattle.session_loop.specs.Steps.{Stored, stored, ReadMeans};
-ghost use Rattle.session_loop.specs.Sessions.{HasMet};
+ghost use Rattle.session_loop.specs.Sessions.{HasMet, IsQuietEnd};
 ghost use Rattle.shard_disk.specs.Health.{Ages, Failed};
 
 use crate::gathering::Gathering;
@@ -64,6 +64,7 @@ pub fn run<S: Store, R: Source, K: Sink, C: Clock, G: Gate>(
     ensures source_fault { result ≡ End.SourceFault → Failed (R.health source.old) (R.health source.new) }
     ensures sink_ages { Ages (K.health sink.old) (K.health sink.new) }
     ensures sink_fault { result ≡ End.SinkFault → Failed (K.health sink.old) (K.health sink.new) }
+    ensures quiet { IsQuietEnd result (R.health source.old) (R.health source.new) (K.health sink.old) (K.health sink.new) }
 {
     'reads: loop {
         match source.read(buffer) {

@@ -15,7 +15,4 @@ mod shape;
 mod whole;
 mod words;
 
-pub use whole::session;
-
-#[cfg(test)]
-mod tests;
+pub use whole::{session, sessions_compose};

@@ -1,5 +1,5 @@
 //! The texts of replies.
-ghost use Rattle.std.specs.Prelude.{◌≡◌, ◌≤◌, ◌++◌, ◌∷◌, [], map, nat_le, OnOk, OnErr, if◌then◌else◌};
+ghost use Rattle.std.specs.Prelude.{◌≡◌, ◌≤◌, ◌++◌, ◌∷◌, [], map, length, nat_le, OnOk, OnErr, if◌then◌else◌};
 ghost use Rattle.std.specs.Fmt.{decimal, signed_decimal};
 ghost use Rattle.std.specs.List.{flat_map};
 ghost use Rattle.std.specs.Vec.{vec_capacity};
@@ -69,72 +69,122 @@ impl ReplyText {
         let _ = self.bytes.extend_from_slice(b"error E4 Memory\n");
     }
 
-    /// The number that an AFTER asks for is reached, or isn't.
+    /// The number that an AFTER asks for is reached, or isn't. It takes no memory.
     #[tactic(auto, unfolding(session_model::specs::Replies::first_line))]
     pub fn after(&mut self, wanted: u64, number: u64)
-        ensures { IsTextOf (if nat_le wanted number then Reached number else NotReached number) self.new }
+        ensures { self.new ≡ text_of (if nat_le wanted number then Reached number else NotReached number) }
     {
-        let written = if wanted <= number {
-            self.numbered(b"at ", number)
-        } else {
-            self.numbered(b"notyet ", number)
-        };
-        self.settle(written);
+        if wanted <= number {
+            self.numbered(b"at ", number);
+            return;
+        }
+        self.numbered(b"notyet ", number);
     }
 
     #[tactic(auto, unfolding(session_model::specs::Replies::first_line))]
     pub fn not_built(&mut self)
-        ensures { IsTextOf NotBuilt self.new }
+        ensures { self.new ≡ text_of NotBuilt }
     {
-        let written = self.line(b"error B1 NotBuilt\n");
-        self.settle(written);
+        self.short(b"error B1 NotBuilt\n");
     }
 
     #[tactic(auto, unfolding(session_model::specs::Replies::first_line))]
     pub fn history_full(&mut self)
-        ensures { IsTextOf HistoryFull self.new }
+        ensures { self.new ≡ text_of HistoryFull }
     {
-        let written = self.line(b"error E5 HistoryFull\n");
-        self.settle(written);
+        self.short(b"error E5 HistoryFull\n");
     }
 
     #[tactic(auto, unfolding(session_model::specs::Replies::first_line))]
     pub fn device_fault(&mut self)
-        ensures { IsTextOf DeviceFault self.new }
+        ensures { self.new ≡ text_of DeviceFault }
     {
-        let written = self.line(b"error E2 Fault\n");
-        self.settle(written);
+        self.short(b"error E2 Fault\n");
     }
 
     #[tactic(auto, unfolding(session_model::specs::Replies::first_line))]
     pub fn cache_full(&mut self, held: u64)
-        ensures { IsTextOf (CacheFull held) self.new }
+        ensures { self.new ≡ text_of (CacheFull held) }
     {
-        let written = self.numbered(b"error E1 CacheFull ", held);
-        self.settle(written);
+        self.numbered(b"error E1 CacheFull ", held);
     }
 
     #[tactic(auto, unfolding(session_model::specs::Replies::first_line))]
     pub fn series_full(&mut self, held: u64)
-        ensures { IsTextOf (SeriesFull held) self.new }
+        ensures { self.new ≡ text_of (SeriesFull held) }
     {
-        let written = self.numbered(b"error E6 SeriesFull ", held);
-        self.settle(written);
+        self.numbered(b"error E6 SeriesFull ", held);
     }
 
+    #[tactic(auto, unfolding(session_model::specs::Replies::first_line))]
     pub fn damaged(&mut self, file: u32, offset: u64)
-        ensures { IsTextOf (Damaged file offset) self.new }
+        ensures { self.new ≡ text_of (Damaged file offset) }
     {
-        let written = self.damaged_line(file, offset);
-        self.settle(written);
+        let mut digits = Buffer::new();
+        let mut more = Buffer::new();
+        let file = digits.format(file).as_bytes();
+        let offset = more.format(offset).as_bytes();
+        self.bytes.clear();
+        let _ = self.bytes.extend_from_slice(b"error E3 Damaged ");
+        let _ = self.bytes.extend_from_slice(file);
+        let _ = self.bytes.extend_from_slice(b" ");
+        let _ = self.bytes.extend_from_slice(offset);
+        let _ = self.bytes.extend_from_slice(b"\n");
     }
 
+    #[tactic(auto, unfolding(session_model::specs::Replies::first_line))]
     pub fn refused(&mut self, refusal: Refusal)
-        ensures text { IsTextOf (Refused refusal) self.new }
+        ensures text { self.new ≡ text_of (Refused refusal) }
         ensures readable { IsReadable (Refused refusal) }
     {
-        let written = self.refusal_line(refusal);
-        self.settle(written);
+        match refusal {
+            Refusal::LineTooLong => self.short(b"error S1 LineTooLong\n"),
+            Refusal::BatchCut => self.short(b"error S2 BatchCut\n"),
+            Refusal::NotText => self.short(b"error S3 NotText\n"),
+            Refusal::Protocol { code, line } => self.refused_line(code, line),
+        }
+    }
+
+    /// The code of a line of writing, and its place where it isn't the whole text.
+    #[tactic(auto, unfolding(session_model::specs::Replies::first_line))]
+    fn refused_line(&mut self, code: LineCode, line: u32)
+        ensures text { self.new ≡ text_of (Refused (Refusal.Protocol code line)) }
+        ensures readable { IsReadable (Refused (Refusal.Protocol code line)) }
+    {
+        let name = code_name(code).as_bytes();
+        self.bytes.clear();
+        let _ = self.bytes.extend_from_slice(b"error ");
+        let _ = self.bytes.extend_from_slice(name);
+        if line == 0 {
+            let _ = self.bytes.extend_from_slice(b"\n");
+            return;
+        }
+        let mut digits = Buffer::new();
+        let _ = self.bytes.extend_from_slice(b" line ");
+        let _ = self.bytes.extend_from_slice(digits.format(line).as_bytes());
+        let _ = self.bytes.extend_from_slice(b"\n");
+    }
+
+    /// The word and the number on a line. It takes no memory.
+    fn numbered(&mut self, word: &[u8], number: u64)
+        requires { length word.now ≤ 64 }
+        ensures { self.new ≡ word.now ++ decimal number ++ 10 ∷ [] }
+    {
+        let mut digits = Buffer::new();
+        let digits = digits.format(number).as_bytes();
+        self.bytes.clear();
+        let _ = self.bytes.extend_from_slice(word);
+        let _ = self.bytes.extend_from_slice(digits);
+        let _ = self.bytes.extend_from_slice(b"\n");
+    }
+
+    /// These bytes, in the place of what was there. It takes no memory.
+    fn short(&mut self, bytes: &[u8])
+        requires { length bytes.now ≤ 128 }
+        ensures { self.new ≡ bytes.now }
+    {
+        self.bytes.clear();
+        let _ = self.bytes.extend_from_slice(bytes);
     }
 
     #[tactic(auto, using(crate::proofs::ServingLemmas::name_lacks))]
@@ -166,49 +216,10 @@ impl ReplyText {
     }
 
     #[tactic(auto, unfolding(session_model::specs::Replies::first_line))]
-    fn damaged_line(&mut self, file: u32, offset: u64) -> Result<(), AllocError>
-        ensures { OnOk result (self.new ≡ text_of (Damaged file offset)) }
-    {
-        self.line(b"error E3 Damaged ")?;
-        self.add_number(u64::from(file))?;
-        self.add(b" ")?;
-        self.add_number(offset)?;
-        self.add(b"\n")
-    }
-
-    #[tactic(auto, unfolding(session_model::specs::Replies::first_line))]
-    fn refusal_line(&mut self, refusal: Refusal) -> Result<(), AllocError>
-        ensures text { OnOk result (self.new ≡ text_of (Refused refusal)) }
-        ensures readable { IsReadable (Refused refusal) }
-    {
-        match refusal {
-            Refusal::LineTooLong => self.line(b"error S1 LineTooLong\n"),
-            Refusal::BatchCut => self.line(b"error S2 BatchCut\n"),
-            Refusal::NotText => self.line(b"error S3 NotText\n"),
-            Refusal::Protocol { code, line } => self.refused_line(code, line),
-        }
-    }
-
-    #[tactic(auto, unfolding(session_model::specs::Replies::first_line))]
-    fn refused_line(&mut self, code: LineCode, line: u32) -> Result<(), AllocError>
-        ensures text { OnOk result (self.new ≡ text_of (Refused (Refusal.Protocol code line))) }
-        ensures readable { IsReadable (Refused (Refusal.Protocol code line)) }
-    {
-        self.line(b"error ")?;
-        self.add(code_name(code).as_bytes())?;
-        if line == 0 {
-            return self.add(b"\n");
-        }
-        self.add(b" line ")?;
-        self.add_number(u64::from(line))?;
-        self.add(b"\n")
-    }
-
-    #[tactic(auto, unfolding(session_model::specs::Replies::first_line))]
     fn conflict_line(&mut self, field: &str, held: Kind, number: u64) -> Result<(), AllocError>
         ensures { OnOk result (self.new ≡ text_of (TypeConflict field.now held number)) }
     {
-        self.line(b"error T1 TypeConflict ")?;
+        self.short(b"error T1 TypeConflict ");
         self.add_name(field.as_bytes())?;
         self.add(b" ")?;
         self.add(kind_name(held).as_bytes())?;
@@ -227,7 +238,7 @@ impl ReplyText {
     ) -> Result<(), AllocError>
         ensures { OnOk result (self.new ≡ text_of (Found number (tables_of measurement.now field.now rows.now))) }
     {
-        self.numbered(b"at ", number)?;
+        self.numbered(b"at ", number);
         self.add_tables(measurement, field, rows)?;
         self.add(b".\n")
     }
@@ -298,23 +309,6 @@ impl ReplyText {
         Ok(())
     }
 
-    /// The word and the number on a line.
-    fn numbered(&mut self, word: &[u8], number: u64) -> Result<(), AllocError>
-        ensures { OnOk result (self.new ≡ word.now ++ decimal number ++ 10 ∷ []) }
-    {
-        self.line(word)?;
-        self.add_number(number)?;
-        self.add(b"\n")
-    }
-
-    /// These bytes, in the place of what was there.
-    fn line(&mut self, bytes: &[u8]) -> Result<(), AllocError>
-        ensures { OnOk result (self.new ≡ bytes.now) }
-    {
-        self.bytes.clear();
-        self.add(bytes)
-    }
-
     fn add_number(&mut self, number: u64) -> Result<(), AllocError>
         ensures { OnOk result (self.new ≡ self.old ++ decimal number) }
     {
@@ -340,7 +334,8 @@ impl ReplyText {
 /// The code of a line and its name.
 #[tactic(auto, unfolding(session_model::specs::Replies::code_text))]
 fn code_name(code: LineCode) -> &'static str
-    ensures { result.now ≡ code_text code }
+    ensures text { result.now ≡ code_text code }
+    ensures short { length result.now ≤ 20 }
 {
     match code {
         LineCode::NoMeasurement => "L1 NoMeasurement",

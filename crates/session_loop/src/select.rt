@@ -12,7 +12,7 @@ ghost use Rattle.session_loop.specs.Texts.{IsTextOf, reply_of_view};
 ghost use Rattle.std.specs.List.Sorted.{IsPermutation};
 
 use crate::replies::ReplyText;
-use point_model::{CursorFault, Need, PointCursor, TagCond};
+use point_model::{CursorFault, Need, PointCursor, TagCond, TagTest};
 use session_io::{Gate, Place};
 use std::alloc::{AllocError, Global};
 use store_trait::{Store, ViewFault};
@@ -32,8 +32,31 @@ pub fn select<S: Store, G: Gate>(
     ensures served { Serves (stored S.told S.health store.old) (Selects field.now measurement) text.new result (stored S.told S.health store.new) }
     ensures none_out { (S.told store.new).out ≡ [] }
 {
-    let need = all_of(measurement);
-    match store.begin_view(&need) {
+    match all_of(alloc, measurement) {
+        Ok(need) => look(alloc, store, gate, who, field, &need, text),
+        Err(AllocError) => {
+            text.out_of_memory();
+            None
+        }
+    }
+}
+
+/// The same of all points of a measurement, which are asked for.
+fn look<S: Store, G: Gate>(
+    alloc: Global,
+    store: &mut S,
+    gate: &G,
+    who: u32,
+    field: &Name,
+    need: &Need,
+    text: &mut ReplyText,
+) -> Option<u64>
+    requires none_out { (S.told store.old).out ≡ [] }
+    requires all { AsksAll need.now }
+    ensures served { Serves (stored S.told S.health store.old) (Selects field.now need.now.measurement) text.new result (stored S.told S.health store.new) }
+    ensures none_out { (S.told store.new).out ≡ [] }
+{
+    match store.begin_view(need) {
         Ok(view) => {
             let mut view = view;
             gate.reach(who, Place::View);
@@ -56,17 +79,17 @@ pub fn select<S: Store, G: Gate>(
 }
 
 /// All points of a measurement.
-fn all_of(measurement: Name) -> Need
-    ensures measurement { result.measurement ≡ measurement }
-    ensures all { AsksAll result }
+fn all_of(alloc: Global, measurement: Name) -> Result<Need, AllocError>
+    ensures measurement { IfOk result (λ need. need.measurement ≡ measurement) }
+    ensures all { IfOk result AsksAll }
 {
-    Need {
+    Ok(Need {
         measurement,
-        tags: TagCond::True,
+        tags: TagCond::new(alloc, TagTest::True)?,
         from: Time::new(-9_223_372_036_854_775_806).unwrap(),
         to: Time::new(9_223_372_036_854_775_806).unwrap(),
         descending: false,
-    }
+    })
 }
 
 /// Writes the reply to what was read.

@@ -1,8 +1,9 @@
 //! A whole session over a store.
 ghost use Rattle.std.specs.Prelude.{◌≡◌, [], None, true, length, IfOk};
 ghost use Rattle.store_trait.specs.Told.{state_now};
+ghost use Rattle.session_loop.specs.Composed.{SessionsCompose};
 ghost use Rattle.session_loop.specs.Pendings.{Pends};
-ghost use Rattle.session_loop.specs.Sessions.{IsSession, told};
+ghost use Rattle.session_loop.specs.Sessions.{IsSession, IsQuietEnd, told};
 ghost use Rattle.session_loop.specs.Steps.{stored};
 ghost use Rattle.shard_disk.specs.Health.{Ages, Failed};
 
@@ -41,6 +42,7 @@ pub fn session<S: Store, R: Source, K: Sink, C: Clock, G: Gate>(
 
     ensures source_ages { Ages (R.health source.old) (R.health source.new) }
     ensures sink_ages { Ages (K.health sink.old) (K.health sink.new) }
+    ensures quiet { IsQuietEnd result.end (R.health source.old) (R.health source.new) (K.health sink.old) (K.health sink.new) }
 {
     let opening = store.number();
     match make_rooms(alloc) {
@@ -48,6 +50,11 @@ pub fn session<S: Store, R: Source, K: Sink, C: Clock, G: Gate>(
         Ok(rooms) => serve(alloc, rooms, opening, store, source, sink, clock, gate, who),
     }
 }
+
+/// What sessions over one history come to, each over a store of its own: the history explains what all clients were told.
+pub fn sessions_compose()
+    ensures { SessionsCompose }
+{}
 
 /// What a session keeps while it lasts.
 #[derive(Drop)]
@@ -102,6 +109,7 @@ fn serve<S: Store, R: Source, K: Sink, C: Clock, G: Gate>(
     ensures sink_fault { result.end ≡ End.SinkFault → Failed (K.health sink.old) (K.health sink.new) }
     ensures source_ages { Ages (R.health source.old) (R.health source.new) }
     ensures sink_ages { Ages (K.health sink.old) (K.health sink.new) }
+    ensures quiet { IsQuietEnd result.end (R.health source.old) (R.health source.new) (K.health sink.old) (K.health sink.new) }
 {
     let Rooms {
         mut pending,

@@ -1,5 +1,5 @@
 -- What the fields of a shard give of contents.
-use Rattle.std.proofs.Common.{◌≡◌, refl, Bool, true, false, cond, ◌||◌, List, Option, None}
+use Rattle.std.proofs.Common.{◌≡◌, ap, refl, IsSome, Some, Bool, true, false, cond, ◌||◌, List, Option, None}
 use Rattle.std.specs.List.Sorted.{IsStrictlySortedBy}
 use Rattle.std.specs.Map.{keys_of}
 use Rattle.tsdb_types.specs.declared.point.Cell.{Cell}
@@ -16,14 +16,21 @@ use Rattle.point_model.specs.Contents.{live, spared}
 use Rattle.shard_core.specs.Contents.{held}
 use Rattle.shard_core.specs.Taken.{Accepts, Admits}
 
-pub live_covered : (deletion : Deletion) (points : Points) (covers : Cell → Bool) (cell : Cell) → live points (λ c. covers c || is_deleted deletion c) cell ≡ spared deletion (live points covers) cell
-live_covered deletion points covers cell = by (covers cell) (is_deleted deletion cell) (value_at points cell)
+pub live_covered : (deletion : Deletion) (points : Points) (before now : Cell → Bool) → ((cell : Cell) → IsSome (value_at points cell) → now cell ≡ (before cell || is_deleted deletion cell))
+    → (cell : Cell) → live points now cell ≡ spared deletion (live points before) cell
+live_covered deletion points before now covers cell = by (value_at points cell) (now cell) (before cell) (is_deleted deletion cell) (covers cell)
   where
-    by : (covered deleted : Bool) (o : Option Value) → cond (covered || deleted) None o ≡ cond deleted None (cond covered None o)
-    by true true o = refl
-    by true false o = refl
-    by false true o = refl
-    by false false o = refl
+    by : (o : Option Value) (now before deleted : Bool) → (IsSome o → now ≡ (before || deleted)) → cond now None o ≡ cond deleted None (cond before None o)
+    by None true before true covers = refl
+    by None true true false covers = refl
+    by None true false false covers = refl
+    by None false before true covers = refl
+    by None false true false covers = refl
+    by None false false false covers = refl
+    by (Some value) now true true covers = ap (λ (b : Bool). cond b None (Some value)) (covers refl)
+    by (Some value) now true false covers = ap (λ (b : Bool). cond b None (Some value)) (covers refl)
+    by (Some value) now false true covers = ap (λ (b : Bool). cond b None (Some value)) (covers refl)
+    by (Some value) now false false covers = ap (λ (b : Bool). cond b None (Some value)) (covers refl)
 
 -- an entry that the points take is admitted by what they have
 pub admitted : (points : Points) (entry : Entry) → Takes points entry → Admits (held points) entry

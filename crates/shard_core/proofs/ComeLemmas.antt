@@ -2,12 +2,14 @@
 use Rattle.std.proofs.Common.{◌≡◌, inl, inr, ℕ, ◌+◌, ◌≤◌, arith, Bool, true, false, cond, ◌==◌, List, [], ◌∷◌, ◌++◌, map, ◌∙◌, ap, sym, refl, subst, Some, None}
 use Rattle.std.specs.List.{AllByRecursion}
 use Rattle.std.proofs.lemmas.Bool.{eqb-true}
-use Rattle.point_model.specs.Points.{Points}
+use Rattle.point_model.specs.Cursors.{Key}
+use Rattle.point_model.specs.Points.{Points, no_points}
+use Rattle.shard_core.specs.Crashes.{Opens, opened}
 use Rattle.shard_core.specs.Invariant.{MergeStands}
 use Rattle.shard_core.specs.MergeEvents.{EndsMerge, IsFileOfMerge, file_of_merge}
 use Rattle.shard_core.specs.Numbers.{count, named, names_of}
 use Rattle.shard_core.specs.SnapshotEvents.{EndsSnapshot, IsFileOf, file_of, name_all, without_snapshot}
-use Rattle.shard_core.specs.State.{Core, File, Merge, Snapshot}
+use Rattle.shard_core.specs.State.{Core, File, Merge, Snapshot, empty}
 use Rattle.shard_core.specs.Taken.{IsReadable}
 use Rattle.shard_core.proofs.ListLemmas.{all_right, count-append, names-append, names_same}
 use Rattle.shard_core.proofs.Standing.{Standing}
@@ -88,5 +90,18 @@ merge_ends core inv earlier merge others listed number unused =
     )
 
 -- an empty directory can be read
-pub empty_readable : IsReadable (record { files = []; floor = 0; entries = [] })
+pub empty_readable : IsReadable empty
 empty_readable = record { kinds = λ a b v w first second same. absurd first; takes = tt }
+
+-- and opened, with no points and no keys
+pub empty_opens : (new : Core) × Opens empty new
+empty_opens = (
+  opened empty no_points no_keys no_keys,
+  record { points = no_points; are = λ cell. refl; index = no_keys; stored = no_keys; is_index = λ key. ((λ is. absurd (cc)), (λ has. absurd (none_there has.1))); same = refl },
+)
+  where
+    no_keys : Key → Bool
+    no_keys key = false
+
+    none_there : false ≡ true → ⊥
+    none_there e = cc

@@ -23,7 +23,7 @@ use Rattle.shard_core.specs.Contents.{held}
 use Rattle.shard_core.specs.EntryEvents.{Deletes, HasOfKey, Writes, cut_file, cut_merge, cut_snapshot, key_of_point, with_delete, with_write}
 use Rattle.shard_core.specs.Invariant.{IsIndex, MergeStands, Shows, ViewShows}
 use Rattle.shard_core.specs.Numbers.{AreApart, Climbs, count, held_by_views}
-use Rattle.shard_core.specs.Parts.{FileFollows, Parts}
+use Rattle.shard_core.specs.Parts.{FileIsCut, Parts}
 use Rattle.shard_core.specs.Files.{generation_of, now_of, number_of, source_numbers}
 use Rattle.shard_core.specs.Shown.{contents_of, snapshot_contents}
 use Rattle.shard_core.specs.State.{Core, Merge, points_of}
@@ -121,7 +121,7 @@ module _ (client : ℕ) (points : List Point) (index : Key → Bool) (core : Cor
         floor = parts.floor;
         cache = λ cell. value_after_entry core.cache write cell ∙ ap (λ (o : Option Value). applied (effect write cell) o) (parts.cache cell) ∙ sym (PartLemmas.effects_more parts.second write cell None);
         snapshot = PartLemmas.snapshot_write core.floor parts.first parts.second client points core.snapshot parts.snapshot;
-        files = all_over (FileFollows (parts.first ++ parts.second)) (FileFollows (parts.first ++ (parts.second ++ write ∷ [])))
+        files = all_over (FileIsCut (parts.first ++ parts.second)) (FileIsCut (parts.first ++ (parts.second ++ write ∷ [])))
             (λ file is. PartLemmas.follows_same (is_deleted_by (parts.first ++ parts.second)) (is_deleted_by (parts.first ++ (parts.second ++ write ∷ []))) file.stored.content file.now
             (λ cell. ap (λ (es : List Entry). is_deleted_by es cell) (sym (append_assoc parts.first parts.second (write ∷ []))) ∙ PartLemmas.deleted_more_write (parts.first ++ parts.second) client points cell) is)
             core.files parts.files;
@@ -194,7 +194,7 @@ module _ (client : ℕ) (deletion : Deletion) (index : Key → Bool) (core : Cor
         floor = parts.floor;
         cache = λ cell. value_after_entry core.cache delete cell ∙ ap (λ (o : Option Value). applied (effect delete cell) o) (parts.cache cell) ∙ sym (PartLemmas.effects_more parts.second delete cell None);
         snapshot = PartLemmas.snapshot_delete core.floor parts.first parts.second client deletion core.snapshot parts.snapshot;
-        files = all_over_map (FileFollows (parts.first ++ parts.second)) (FileFollows (parts.first ++ (parts.second ++ delete ∷ []))) (cut_file deletion)
+        files = all_over_map (FileIsCut (parts.first ++ parts.second)) (FileIsCut (parts.first ++ (parts.second ++ delete ∷ []))) (cut_file deletion)
             (λ file is. PartLemmas.follows_cut (is_deleted_by (parts.first ++ parts.second)) (is_deleted_by (parts.first ++ (parts.second ++ delete ∷ []))) file.stored.content file.now deletion
             (λ cell. ap (λ (es : List Entry). is_deleted_by es cell) (sym (append_assoc parts.first parts.second (delete ∷ []))) ∙ PartLemmas.deleted_more_delete (parts.first ++ parts.second) client deletion cell) is)
             core.files parts.files;

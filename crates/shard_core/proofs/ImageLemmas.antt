@@ -18,7 +18,7 @@ use Rattle.shard_core.specs.Crashes.{Images, MayLeave, Opens, opened, opened_fil
 use Rattle.shard_core.specs.Images.{ImageStands, IsDirectory, image_value}
 use Rattle.shard_core.specs.Invariant.{IsIndex}
 use Rattle.shard_core.specs.Numbers.{Climbs, count, stored_names}
-use Rattle.shard_core.specs.Parts.{FileFollows, IfSnapshotIs, Parts}
+use Rattle.shard_core.specs.Parts.{FileIsCut, IfSnapshotIs, Parts}
 use Rattle.shard_core.specs.Files.{content_in, generation_in, generation_of, now_of, on_disk, stored_of}
 use Rattle.shard_core.specs.Shown.{contents_in, image_of, snapshot_contents}
 use Rattle.shard_core.specs.State.{Core, File, Image, Snapshot, Stored}
@@ -93,7 +93,7 @@ combined None None d1 d2 d s f disk both n1 k1 n2 k2 sa sb fa fb =
     ap₂ (λ (a b : Option Value). option_or a b) (sb (n2 refl)) (fb (both ∙ or_false d1 d2 (n1 refl) (n2 refl)))
 
 -- where no deletion takes a cell away the files have what the disk has
-disk_same : (entries : List Entry) (files : List File) → AllByRecursion (FileFollows entries) files → (cell : Cell) → is_deleted_by entries cell ≡ false
+disk_same : (entries : List Entry) (files : List File) → AllByRecursion (FileIsCut entries) files → (cell : Cell) → is_deleted_by entries cell ≡ false
     → overlay (map now_of files) cell ≡ overlay (map on_disk files) cell
 disk_same entries [] follow cell e = refl
 disk_same entries (file ∷ files) follow cell e =
@@ -113,7 +113,7 @@ snapshot_value floor first second (Some snapshot) is cell e =
 
 -- the contents show what the disk's do under the entries past the floor
 pub parts_show : (files : List File) (snapshot : Option Snapshot) (cache : Points) (floor : ℕ) (first second : List Entry)
-    → ((cell : Cell) → value_at cache cell ≡ applied (effects second cell) None) → IfSnapshotIs floor first second snapshot → AllByRecursion (FileFollows (first ++ second)) files
+    → ((cell : Cell) → value_at cache cell ≡ applied (effects second cell) None) → IfSnapshotIs floor first second snapshot → AllByRecursion (FileIsCut (first ++ second)) files
     → (cell : Cell) → overlay (contents_in files snapshot cache) cell ≡ applied (effects (first ++ second) cell) (overlay (map on_disk files) cell)
 parts_show files snapshot cache floor first second has is follow cell =
     shown_is files snapshot cache cell
@@ -170,7 +170,7 @@ module _ (core : Core) (inv : Standing core) where
       (subst (ImageStands core.start (core.history ++ doubt.0 ∷ [])) (sym doubt.3.2) (image_more core.start core.history doubt.0 doubt.3.0 (each_stands doubt.3.0 doubt.3.1))))
       left
 
-opened_follows : (entries : List Entry) (file : Stored) → FileFollows entries (opened_file entries file)
+opened_follows : (entries : List Entry) (file : Stored) → FileIsCut entries (opened_file entries file)
 opened_follows entries file = record {
   hidden = λ cell e. ap (λ (b : Bool). cond b None (file.content cell)) e;
   kept = λ cell e. ap (λ (b : Bool). cond b None (file.content cell)) e;
@@ -180,7 +180,7 @@ stored_opened : (entries : List Entry) (files : List Stored) → map stored_of (
 stored_opened entries [] = refl
 stored_opened entries (file ∷ files) = ap (λ (fs : List Stored). file ∷ fs) (stored_opened entries files)
 
-all_opened : (entries : List Entry) (files : List Stored) → AllByRecursion (FileFollows entries) (map (opened_file entries) files)
+all_opened : (entries : List Entry) (files : List Stored) → AllByRecursion (FileIsCut entries) (map (opened_file entries) files)
 all_opened entries [] = tt
 all_opened entries (file ∷ files) = (opened_follows entries file, all_opened entries files)
 

@@ -24,7 +24,7 @@ use Rattle.shard_core.specs.EntryEvents.{Deletes, Writes, cut_file, cut_snapshot
 use Rattle.shard_core.specs.Invariant.{MergeStands}
 use Rattle.shard_core.specs.Kinds.{HasLive, KindsAgree, OneKind}
 use Rattle.shard_core.specs.MergeEvents.{EndsMerge, IsFileOfMerge, file_of_merge}
-use Rattle.shard_core.specs.Parts.{FileFollows}
+use Rattle.shard_core.specs.Parts.{FileIsCut}
 use Rattle.shard_core.specs.SnapshotEvents.{BeginsSnapshot, EndsSnapshot, IsFileOf, file_of, name_all}
 use Rattle.shard_core.specs.Files.{now_of, on_disk}
 use Rattle.shard_core.specs.Shown.{contents_in, contents_of, snapshot_contents}
@@ -185,7 +185,7 @@ live_on_disk : (deleted : Bool) (now disk : Option Value) (value : Value) → (d
 live_on_disk true now disk value hidden kept e = absurd (let f = hidden refl in let g = sym f ∙ e in cc)
 live_on_disk false now disk value hidden kept e = sym (kept refl) ∙ e
 
-pub within_disk : (entries : List Entry) (files : List File) → AllByRecursion (FileFollows entries) files → Within (map now_of files) (map on_disk files)
+pub within_disk : (entries : List Entry) (files : List File) → AllByRecursion (FileIsCut entries) files → Within (map now_of files) (map on_disk files)
 within_disk entries [] follow cell value has = absurd has
 within_disk entries (file ∷ files) follow cell value (inl is) =
     let own = follow.0 in
@@ -218,8 +218,8 @@ merge_disk_within old new ends inv =
     let own : MergeStands old.files merge = (let right = all_right (MergeStands old.files) ends.earlier (merge ∷ ends.others) all in right.0) in
     let parts = inv.parts in
     let entries = parts.first ++ parts.second in
-    let follow = subst (λ (files : List File). AllByRecursion (FileFollows entries) files) ends.placed parts.files in
-    let follow_sources = all_left (FileFollows entries) merge.sources ends.behind (all_right (FileFollows entries) ends.before (merge.sources ++ ends.behind) follow) in
+    let follow = subst (λ (files : List File). AllByRecursion (FileIsCut entries) files) ends.placed parts.files in
+    let follow_sources = all_left (FileIsCut entries) merge.sources ends.behind (all_right (FileIsCut entries) ends.before (merge.sources ++ ends.behind) follow) in
     replaced_within on_disk ends.before ends.made merge.sources ends.behind
     (λ cell value has. within_disk entries merge.sources follow_sources cell value
     (output_within old.files merge own cell value (made_of_merge merge ends.made ends.is_made on_disk (λ number tomb. refl) cell value has)))
@@ -244,7 +244,7 @@ end_merge_kinds old new ends inv kinds =
     }
 
 -- files of which some have all their tombstones on the disk
-pub within_named : (chosen : File → Bool) (tombs : File → Option ℕ) (entries : List Entry) (files : List File) → AllByRecursion (FileFollows entries) files → Within (map on_disk (map (name_some chosen tombs) files)) (map on_disk files)
+pub within_named : (chosen : File → Bool) (tombs : File → Option ℕ) (entries : List Entry) (files : List File) → AllByRecursion (FileIsCut entries) files → Within (map on_disk (map (name_some chosen tombs) files)) (map on_disk files)
 within_named chosen tombs entries [] follow cell value has = absurd has
 within_named chosen tombs entries (file ∷ files) follow cell value (inr has) = inr (within_named chosen tombs entries files follow.1 cell value has)
 within_named chosen tombs entries (file ∷ files) follow cell value (inl is) = inl (by (chosen file) is)

@@ -89,6 +89,19 @@ newest_climbs low file (other ∷ files) high climbs =
     let rest = newest_climbs (suc file.stored.generation) other files high climbs.1 in
     (let e = climbs.0 in let f = rest.0 in omega arith, rest.1)
 
+-- what shares no number with a list, the list shares none with
+share_first : (n : ℕ) (others some : List ℕ) → ShareNone some (n ∷ others) → AllByRecursion (λ other. n ≢ other) some
+share_first n others [] share = tt
+share_first n others (m ∷ some) share = ((λ e. share.0.0 (sym e)), share_first n others some share.1)
+
+share_rest : (n : ℕ) (others some : List ℕ) → ShareNone some (n ∷ others) → ShareNone some others
+share_rest n others [] share = tt
+share_rest n others (m ∷ some) share = (share.0.1, share_rest n others some share.1)
+
+pub share_turned : (others some : List ℕ) → ShareNone some others → ShareNone others some
+share_turned [] some share = tt
+share_turned (n ∷ others) some share = (share_first n others some share, share_turned others some (share_rest n others some share))
+
 -- two groups of one list without a common number: one stands before the other
 head_same : {A : Type 0} (x y : A) (xs ys : List A) → x ∷ xs ≡ y ∷ ys → x ≡ y
 head_same x y xs ys e = cc
@@ -124,24 +137,24 @@ three : (a b c d : List File) → (a ++ (b ++ c)) ++ d ≡ a ++ (b ++ (c ++ d))
 three a b c d = append_assoc a (b ++ c) d ∙ ap (λ xs. a ++ xs) (append_assoc b c d)
 
 pub group_stays : (made front_of group behind_of before other behind : List File) → front_of ++ (group ++ behind_of) ≡ before ++ (other ++ behind)
-    → ShareNone (map number_of group) (map number_of other) → ShareNone (map number_of other) (map number_of group) → group ≢ [] → other ≢ []
+    → ShareNone (map number_of group) (map number_of other) → group ≢ [] → other ≢ []
     → Stays group made before behind
-group_stays made [] group behind_of before other behind e share turned some some_other =
+group_stays made [] group behind_of before other behind e share some some_other =
     let is = front group behind_of before other behind e share some_other in
     record {
       before_it = [];
       behind_it = is.between ++ (made ++ behind);
       placed = ap (λ xs. xs ++ (made ++ behind)) is.is_before ∙ append_assoc group is.between (made ++ behind);
     }
-group_stays made (x ∷ front_of) group behind_of [] other behind e share turned some some_other =
-    let is = front other behind (x ∷ front_of) group behind_of (sym e) turned some in
+group_stays made (x ∷ front_of) group behind_of [] other behind e share some some_other =
+    let is = front other behind (x ∷ front_of) group behind_of (sym e) (share_turned (map number_of other) (map number_of group) share) some in
     record {
       before_it = made ++ is.between;
       behind_it = behind_of;
       placed = ap (λ xs. made ++ xs) is.is_behind ∙ sym (append_assoc made is.between (group ++ behind_of));
     }
-group_stays made (x ∷ front_of) group behind_of (y ∷ before) other behind e share turned some some_other =
-    let later = group_stays made front_of group behind_of before other behind (tail_same x y (front_of ++ (group ++ behind_of)) (before ++ (other ++ behind)) e) share turned some some_other in
+group_stays made (x ∷ front_of) group behind_of (y ∷ before) other behind e share some some_other =
+    let later = group_stays made front_of group behind_of before other behind (tail_same x y (front_of ++ (group ++ behind_of)) (before ++ (other ++ behind)) e) share some some_other in
     record {
       before_it = y ∷ later.before_it;
       behind_it = later.behind_it;
@@ -151,19 +164,19 @@ group_stays made (x ∷ front_of) group behind_of (y ∷ before) other behind e 
 -- of lists that are apart, one is taken out
 pub record Without (some : List ℕ) (rest : List (List ℕ)) : Type 0 where
   pub apart : AreApart rest
-  pub from_it : AllByRecursion (λ others. ShareNone others some × ShareNone some others) rest
+  pub from_it : AllByRecursion (λ others. ShareNone others some) rest
 
 pub apart_without : (earlier : List (List ℕ)) (some : List ℕ) (others : List (List ℕ)) → AreApart (earlier ++ some ∷ others) → Without some (earlier ++ others)
 apart_without [] some others apart = record {
   apart = apart.1;
-  from_it = all_over (λ other. ShareNone some other × ShareNone other some) (λ other. ShareNone other some × ShareNone some other) (λ other s. (s.1, s.0)) others apart.0;
+  from_it = all_over (ShareNone some) (λ other. ShareNone other some) (λ other s. share_turned other some s) others apart.0;
 }
 apart_without (first ∷ earlier) some others apart =
     let rest = apart_without earlier some others apart.1 in
     let all = apart.0 in
-    let right = all_right (λ other. ShareNone first other × ShareNone other first) earlier (some ∷ others) all in
+    let right = all_right (ShareNone first) earlier (some ∷ others) all in
     record {
-      apart = (all_append (λ other. ShareNone first other × ShareNone other first) earlier others (all_left (λ other. ShareNone first other × ShareNone other first) earlier (some ∷ others) all) right.1, rest.apart);
+      apart = (all_append (ShareNone first) earlier others (all_left (ShareNone first) earlier (some ∷ others) all) right.1, rest.apart);
       from_it = (right.0, rest.from_it);
     }
 

@@ -13,7 +13,7 @@ use Rattle.point_model.specs.Effects.{is_deleted_by}
 use Rattle.shard_core.specs.Invariant.{MergeStands}
 use Rattle.shard_core.specs.MergeEvents.{EndsMerge, IsFileOfMerge, newest_generation}
 use Rattle.shard_core.specs.Numbers.{AreApart, Climbs, ShareNone, count, held_by_merges, names_of}
-use Rattle.shard_core.specs.Parts.{FileFollows}
+use Rattle.shard_core.specs.Parts.{FileIsCut}
 use Rattle.shard_core.specs.Files.{generation_of, now_of, number_of, source_numbers, tomb_of}
 use Rattle.shard_core.specs.Shown.{snapshot_contents}
 use Rattle.shard_core.specs.State.{Core, File, Merge}
@@ -34,7 +34,7 @@ files_replaced before group made behind cell same = shown made ∙ ap (λ (o : O
         ∙ ap (λ (o : Option Value). option_or o (overlay (map now_of before) cell)) (overlay-append (map now_of files) (map now_of behind) cell)
 
 -- what a deletion takes away of each file isn't in their overlay
-pub overlay_hidden : (entries : List Entry) (files : List File) → AllByRecursion (FileFollows entries) files → (cell : Cell) → is_deleted_by entries cell ≡ true → overlay (map now_of files) cell ≡ None
+pub overlay_hidden : (entries : List Entry) (files : List File) → AllByRecursion (FileIsCut entries) files → (cell : Cell) → is_deleted_by entries cell ≡ true → overlay (map now_of files) cell ≡ None
 overlay_hidden entries [] follow cell e = refl
 overlay_hidden entries (file ∷ files) follow cell e =
     ap₂ (λ (a b : Option Value). option_or a b) (overlay_hidden entries files follow.1 cell e) (let is = follow.0 in is.hidden cell e)
@@ -42,13 +42,13 @@ overlay_hidden entries (file ∷ files) follow cell e =
 -- each of these files' groups stays, where a group apart from it gives place
 groups_stay : (made before other behind files : List File) → files ≡ before ++ (other ++ behind) → other ≢ []
     → (merges : List Merge) → AllByRecursion (MergeStands files) merges
-    → AllByRecursion (λ numbers. ShareNone numbers (map number_of other) × ShareNone (map number_of other) numbers) (map source_numbers merges)
+    → AllByRecursion (λ numbers. ShareNone numbers (map number_of other)) (map source_numbers merges)
     → AllByRecursion (MergeStands (before ++ (made ++ behind))) merges
 groups_stay made before other behind files placed some [] stand apart = tt
 groups_stay made before other behind files placed some (merge ∷ merges) stand apart =
     let is = stand.0 in
     let share = apart.0 in
-    let stays = group_stays made is.before merge.sources is.behind before other behind (sym is.placed ∙ placed) share.0 share.1 is.some some in (
+    let stays = group_stays made is.before merge.sources is.behind before other behind (sym is.placed ∙ placed) share is.some some in (
       record { before = stays.before_it; behind = stays.behind_it; placed = stays.placed; some = is.some; within = is.within; shows = is.shows },
       groups_stay made before other behind files placed some merges stand.1 apart.1,
     )
@@ -76,18 +76,18 @@ module _ (core : Core) (inv : Standing core) (merge : Merge) (earlier others : L
       ap (λ (o : Option Value). option_or (value_at core.cache cell) (option_or (overlay (snapshot_contents core.snapshot) cell) o))
       (files_replaced before merge.sources made behind cell (output_shows cell) ∙ ap (λ (files : List File). overlay (map now_of files) cell) (sym placed))
 
-  output_follows : (entries : List Entry) → AllByRecursion (FileFollows entries) merge.sources → AllByRecursion (FileFollows entries) made
+  output_follows : (entries : List Entry) → AllByRecursion (FileIsCut entries) merge.sources → AllByRecursion (FileIsCut entries) made
   output_follows entries follow =
-      ⊎_elim (λ none. subst (λ (files : List File). AllByRecursion (FileFollows entries) files) (sym none.1) tt)
-      (λ some. subst (λ (files : List File). AllByRecursion (FileFollows entries) files) (sym some.1.2)
+      ⊎_elim (λ none. subst (λ (files : List File). AllByRecursion (FileIsCut entries) files) (sym none.1) tt)
+      (λ some. subst (λ (files : List File). AllByRecursion (FileIsCut entries) files) (sym some.1.2)
       (record { hidden = λ cell e. own.shows cell ∙ overlay_hidden entries merge.sources follow cell e; kept = λ cell e. refl }, tt)) is_made
 
-  end_follows : (entries : List Entry) → AllByRecursion (FileFollows entries) core.files → AllByRecursion (FileFollows entries) (before ++ (made ++ behind))
+  end_follows : (entries : List Entry) → AllByRecursion (FileIsCut entries) core.files → AllByRecursion (FileIsCut entries) (before ++ (made ++ behind))
   end_follows entries follow =
-      let all = subst (λ (files : List File). AllByRecursion (FileFollows entries) files) placed follow in
-      let rest = all_right (FileFollows entries) before (merge.sources ++ behind) all in
-      all_append (FileFollows entries) before (made ++ behind) (all_left (FileFollows entries) before (merge.sources ++ behind) all)
-      (all_append (FileFollows entries) made behind (output_follows entries (all_left (FileFollows entries) merge.sources behind rest)) (all_right (FileFollows entries) merge.sources behind rest))
+      let all = subst (λ (files : List File). AllByRecursion (FileIsCut entries) files) placed follow in
+      let rest = all_right (FileIsCut entries) before (merge.sources ++ behind) all in
+      all_append (FileIsCut entries) before (made ++ behind) (all_left (FileIsCut entries) before (merge.sources ++ behind) all)
+      (all_append (FileIsCut entries) made behind (output_follows entries (all_left (FileIsCut entries) merge.sources behind rest)) (all_right (FileIsCut entries) merge.sources behind rest))
 
   newest : (files : List File) → files ≢ [] → (low high : ℕ) → Climbs low (map generation_of files) high → Climbs low (newest_generation files ∷ []) high
   newest [] some low high climbs = absurd (some refl)
@@ -126,7 +126,7 @@ module _ (core : Core) (inv : Standing core) (merge : Merge) (earlier others : L
         let all = stand in
         groups_stay made before merge.sources behind core.files placed own.some (earlier ++ others)
         (all_append (MergeStands core.files) earlier others (all_left (MergeStands core.files) earlier (merge ∷ others) all) (let right = all_right (MergeStands core.files) earlier (merge ∷ others) all in right.1))
-        (subst (λ (numbers : List (List ℕ)). AllByRecursion (λ ns. ShareNone ns (source_numbers merge) × ShareNone (source_numbers merge) ns) numbers) (sym (map-append source_numbers earlier others)) apart_now.from_it);
+        (subst (λ (numbers : List (List ℕ)). AllByRecursion (λ ns. ShareNone ns (source_numbers merge)) numbers) (sym (map-append source_numbers earlier others)) apart_now.from_it);
     apart = subst AreApart (sym (map-append source_numbers earlier others)) apart_now.apart;
     parts =
         let parts = inv.parts in

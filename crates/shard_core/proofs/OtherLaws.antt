@@ -17,7 +17,7 @@ use Rattle.shard_core.specs.Images.{ImageStands}
 use Rattle.shard_core.specs.Invariant.{MergeStands, ViewShows}
 use Rattle.shard_core.specs.MergeEvents.{AbandonsMerge, BeginsMerge}
 use Rattle.shard_core.specs.Numbers.{AreApart, Climbs, count, held_by_merges, held_by_views, names_of}
-use Rattle.shard_core.specs.Parts.{FileFollows, IfSnapshotIs, Parts}
+use Rattle.shard_core.specs.Parts.{FileIsCut, IfSnapshotIs, Parts}
 use Rattle.shard_core.specs.SnapshotEvents.{AbandonsSnapshot, BeginsSnapshot, Renames, name_all, with_snapshot}
 use Rattle.shard_core.specs.Files.{generation_of, now_of, number_of, source_numbers}
 use Rattle.shard_core.specs.Shown.{image_of, snapshot_contents}
@@ -155,7 +155,7 @@ begin_first core none inv =
               let e = parts.floor in
               omega arith;
         };
-        files = subst (λ (es : List Entry). AllByRecursion (FileFollows es) core.files) (ap (λ (es : List Entry). es ++ parts.second) nil ∙ sym (append-nil parts.second)) parts.files;
+        files = subst (λ (es : List Entry). AllByRecursion (FileIsCut es) core.files) (ap (λ (es : List Entry). es ++ parts.second) nil ∙ sym (append-nil parts.second)) parts.files;
       };
       generations = inv.generations;
       holds = inv.holds;
@@ -316,8 +316,8 @@ same_either : {A : Type 0} (f : File → A) (b : Bool) (x y : File) → f x ≡ 
 same_either f true x y e = e
 same_either f false x y e = refl
 
-follows_either : (entries : List Entry) (tomb : Option ℕ) (b : Bool) (file : File) → FileFollows entries file
-    → FileFollows entries (cond b (record {
+follows_either : (entries : List Entry) (tomb : Option ℕ) (b : Bool) (file : File) → FileIsCut entries file
+    → FileIsCut entries (cond b (record {
       stored = record { no = file.stored.no; generation = file.stored.generation; tomb = tomb; content = file.now };
       now = file.now;
     }) file)
@@ -371,7 +371,7 @@ module _ (chosen : File → Bool) (tombs : File → Option ℕ) where
               floor = parts.floor;
               cache = parts.cache;
               snapshot = parts.snapshot;
-              files = all_over_map (FileFollows (parts.first ++ parts.second)) (FileFollows (parts.first ++ parts.second)) name
+              files = all_over_map (FileIsCut (parts.first ++ parts.second)) (FileIsCut (parts.first ++ parts.second)) name
                   (λ file. follows_either (parts.first ++ parts.second) (tombs file) (chosen file) file) core.files parts.files;
             };
         generations = subst (λ (ns : List ℕ). Climbs 0 ns (suc core.floor)) (sym (generations_named core.files)) inv.generations;

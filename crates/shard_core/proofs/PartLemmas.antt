@@ -19,7 +19,7 @@ use Rattle.shard_core.specs.Contents.{held}
 use Rattle.shard_core.specs.EntryEvents.{cut_file, cut_merge, cut_snapshot, image_with}
 use Rattle.shard_core.specs.Images.{ImageStands}
 use Rattle.shard_core.specs.Invariant.{MergeStands, ViewShows}
-use Rattle.shard_core.specs.Parts.{Follows, IfSnapshotIs}
+use Rattle.shard_core.specs.Parts.{IsCutBy, IfSnapshotIs}
 use Rattle.shard_core.specs.Files.{content_in, now_of}
 use Rattle.shard_core.specs.Shown.{contents_in, snapshot_contents}
 use Rattle.shard_core.specs.State.{File, Image, Merge, Snapshot, View}
@@ -86,7 +86,7 @@ deleted_more_delete (Write other batch ∷ entries) client deletion cell = delet
 deleted_more_delete (Delete other first ∷ entries) client deletion cell =
     ap (λ (b : Bool). is_deleted first cell || b) (deleted_more_delete entries client deletion cell) ∙ bool_assoc (is_deleted first cell) (is_deleted_by entries cell) (is_deleted deletion cell)
 
-pub follows_same : (deleted deleted' : Cell → Bool) (disk now : Content) → ((cell : Cell) → deleted' cell ≡ deleted cell) → Follows deleted disk now → Follows deleted' disk now
+pub follows_same : (deleted deleted' : Cell → Bool) (disk now : Content) → ((cell : Cell) → deleted' cell ≡ deleted cell) → IsCutBy deleted disk now → IsCutBy deleted' disk now
 follows_same deleted deleted' disk now same is = record {
   hidden = λ cell e. is.hidden cell (sym (same cell) ∙ e);
   kept = λ cell e. is.kept cell (sym (same cell) ∙ e);
@@ -103,7 +103,7 @@ kept_cut false true o disk kept e = absurd (cc)
 kept_cut false false o disk kept e = kept refl
 
 pub follows_cut : (deleted deleted' : Cell → Bool) (disk now : Content) (deletion : Deletion) → ((cell : Cell) → deleted' cell ≡ (deleted cell || is_deleted deletion cell))
-    → Follows deleted disk now → Follows deleted' disk (spared deletion now)
+    → IsCutBy deleted disk now → IsCutBy deleted' disk (spared deletion now)
 follows_cut deleted deleted' disk now deletion same is = record {
   hidden = λ cell e. hidden_cut (deleted cell) (is_deleted deletion cell) (now cell) (is.hidden cell) (sym (same cell) ∙ e);
   kept = λ cell e. kept_cut (deleted cell) (is_deleted deletion cell) (now cell) (disk cell) (is.kept cell) (sym (same cell) ∙ e);

@@ -17,7 +17,7 @@ use Rattle.point_model.specs.Effects.{applied, effects, is_deleted_by}
 use Rattle.shard_core.specs.Contents.{held}
 use Rattle.shard_core.specs.Invariant.{MergeStands, Shows}
 use Rattle.shard_core.specs.Numbers.{AreApart, Climbs, count, held_by_views}
-use Rattle.shard_core.specs.Parts.{FileFollows, Follows, IfSnapshotIs, SnapshotIs}
+use Rattle.shard_core.specs.Parts.{FileIsCut, IsCutBy, IfSnapshotIs, SnapshotIs}
 use Rattle.shard_core.specs.SnapshotEvents.{EndsSnapshot, IsFileOf, Renames, name_all, name_merge, without_snapshot}
 use Rattle.shard_core.specs.Files.{generation_of, now_of, number_of, source_numbers}
 use Rattle.shard_core.specs.Shown.{snapshot_contents}
@@ -41,7 +41,7 @@ some_first floor number (entry ∷ first) e some = omega arith
 
 module _ (snapshot : Snapshot) (tombs : File → Option ℕ) (replaced : List ℕ) (core : Core) (inv : Standing core) (out : core.snapshot ≡ Some snapshot)
     (first second : List Entry) (is : SnapshotIs core.floor first second snapshot) where
-  no_value : (snapshot : Snapshot) (cell : Cell) → Follows (is_deleted_by second) (held snapshot.points) snapshot.now → value_at snapshot.points cell ≡ None → snapshot.now cell ≡ None
+  no_value : (snapshot : Snapshot) (cell : Cell) → IsCutBy (is_deleted_by second) (held snapshot.points) snapshot.now → value_at snapshot.points cell ≡ None → snapshot.now cell ≡ None
   no_value snapshot cell follows none =
       ⊎_elim (λ deleted. follows.hidden cell deleted) (λ kept. follows.kept cell kept ∙ none) (cases_Bool (is_deleted_by second cell))
 
@@ -52,10 +52,10 @@ module _ (snapshot : Snapshot) (tombs : File → Option ℕ) (replaced : List �
       ∙ sym (no_value snapshot cell is.follows (ap (λ (ps : Points). value_at ps cell) none.0)))
       (λ some. ap (λ (files : List File). overlay (map now_of files) cell) some.1.2) is_made
 
-  pub made_follows : (made : List File) → IsFileOf snapshot made → AllByRecursion (FileFollows second) made
+  pub made_follows : (made : List File) → IsFileOf snapshot made → AllByRecursion (FileIsCut second) made
   made_follows made is_made =
-      ⊎_elim (λ none. subst (λ (files : List File). AllByRecursion (FileFollows second) files) (sym none.1) tt)
-      (λ some. subst (λ (files : List File). AllByRecursion (FileFollows second) files) (sym some.1.2) (record { hidden = is.follows.hidden; kept = λ cell e. refl }, tt)) is_made
+      ⊎_elim (λ none. subst (λ (files : List File). AllByRecursion (FileIsCut second) files) (sym none.1) tt)
+      (λ some. subst (λ (files : List File). AllByRecursion (FileIsCut second) files) (sym some.1.2) (record { hidden = is.follows.hidden; kept = λ cell e. refl }, tt)) is_made
 
   pub made_climbs : (made : List File) → IsFileOf snapshot made → Climbs (suc core.floor) (map generation_of made) (suc snapshot.number)
   made_climbs made is_made =
@@ -97,7 +97,7 @@ module _ (snapshot : Snapshot) (tombs : File → Option ℕ) (replaced : List �
     }
 
     pub snapshot_ended : (settled : List Entry) → core.past ++ core.history ≡ settled ++ (first ++ second) → core.floor ≡ core.origin + length settled
-        → ((cell : Cell) → value_at core.cache cell ≡ applied (effects second cell) None) → AllByRecursion (FileFollows (first ++ second)) core.files
+        → ((cell : Cell) → value_at core.cache cell ≡ applied (effects second cell) None) → AllByRecursion (FileIsCut (first ++ second)) core.files
         → Standing (without_snapshot snapshot made tombs replaced core)
     snapshot_ended settled joined floor cache files = record {
       shows = end_shows;
@@ -113,8 +113,8 @@ module _ (snapshot : Snapshot) (tombs : File → Option ℕ) (replaced : List �
         floor = (let e = is.counted in let l = length-append settled first in omega arith);
         cache = cache;
         snapshot = refl;
-        files = all_append (FileFollows second) (map (name_all tombs) core.files) made
-            (all_over_map (FileFollows (first ++ second)) (FileFollows second) (name_all tombs)
+        files = all_append (FileIsCut second) (map (name_all tombs) core.files) made
+            (all_over_map (FileIsCut (first ++ second)) (FileIsCut second) (name_all tombs)
             (λ file follows. record { hidden = λ cell e. follows.hidden cell (deleted_later first second cell e); kept = λ cell e. refl }) core.files files)
             (made_follows made is_made);
       };

@@ -19,7 +19,7 @@ use Rattle.shard_core.specs.DiskEvents.{Records, name_some}
 use Rattle.shard_core.specs.EntryEvents.{Deletes, Writes}
 use Rattle.shard_core.specs.Kinds.{HasLive, KindsAgree, OneKind}
 use Rattle.shard_core.specs.MergeEvents.{EndsMerge}
-use Rattle.shard_core.specs.Parts.{FileFollows, IfSnapshotIs, Parts, SnapshotIs}
+use Rattle.shard_core.specs.Parts.{FileIsCut, IfSnapshotIs, Parts, SnapshotIs}
 use Rattle.shard_core.specs.SnapshotEvents.{EndsSnapshot, IsFileOf, name_all, without_snapshot}
 use Rattle.shard_core.specs.Files.{content_in, now_of, on_disk, stored_of}
 use Rattle.shard_core.specs.Shown.{image_of, snapshot_contents}
@@ -168,7 +168,7 @@ some_none : (o : Option Value) (value : Value) → o ≡ Some value → o ≡ No
 some_none o value s n = let e = sym s ∙ n in cc
 
 -- a file's live cell is one that no deletion past the floor takes away
-live_kept : (entries : List Entry) (files : List File) → AllByRecursion (FileFollows entries) files → (cell : Cell) (value : Value) → HasLive (map now_of files) cell value → is_deleted_by entries cell ≡ false
+live_kept : (entries : List Entry) (files : List File) → AllByRecursion (FileIsCut entries) files → (cell : Cell) (value : Value) → HasLive (map now_of files) cell value → is_deleted_by entries cell ≡ false
 live_kept entries [] follow cell value has = absurd has
 live_kept entries (file ∷ files) follow cell value (inl is) =
     ⊎_elim (λ deleted. absurd (let own = follow.0 in some_none (file.now cell) value is (own.hidden cell deleted))) (λ kept. kept) (cases_Bool (is_deleted_by entries cell))

@@ -12,7 +12,7 @@ use Rattle.shard_core.specs.DiskEvents.{CompactsIndex, DoubtsEdit, Records, Sett
 use Rattle.shard_core.specs.EntryEvents.{Deletes, DoubtsEntry, Settles, Writes, image_with}
 use Rattle.shard_core.specs.Events as event
 use Rattle.shard_core.specs.Events.{Event}
-use Rattle.shard_core.specs.Images.{ImageStands, IsDirectory}
+use Rattle.shard_core.specs.Images.{GoesOn, ImageStands, IsDirectory}
 use Rattle.shard_core.specs.Invariant.{Invariant}
 use Rattle.shard_core.specs.Kinds.{KindsAgree, OneKind}
 use Rattle.shard_core.specs.Laws.{EventsKeep, EveryListKeeps}
@@ -277,6 +277,14 @@ crash_meets : (old new : Core) → Crashes old new → Invariant old → Invaria
 crash_meets old new crashes inv =
     let stands = images_stand_now old inv crashes.more crashes.image crashes.left in
     opens_meets crashes.image new stands.directory (images_readable old inv crashes.more crashes.image crashes.left) crashes.opens
+
+-- what is opened begins where the history, or the history with the entry in doubt, ended
+pub crash_goes_on : (old new : Core) (crashes : Crashes old new) → Invariant old → GoesOn old.start (old.history ++ crashes.more) new.start
+crash_goes_on old new crashes inv =
+    let stands = images_stand_now old inv crashes.more crashes.image crashes.left in
+    let opens = crashes.opens in
+    subst (λ (core : Core). GoesOn old.start (old.history ++ crashes.more) core.start) (sym opens.same)
+    (record { points = λ cell. opens.are cell ∙ stands.shows cell; number = stands.counted })
 
 pub events_keep : EventsKeep
 events_keep = record {

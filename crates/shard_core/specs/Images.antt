@@ -20,6 +20,11 @@ pub record IsDirectory (image : Image) : Type 0 where
   pub generations : Climbs 0 (map generation_in image.files) (suc image.floor)
   pub once : (n : ℕ) → count n (stored_names image.files) ≤ 1
 
+-- the state has the points after the history from this start, and the number of its last entry
+pub record GoesOn (start : State) (history : List Entry) (state : State) : Type 0 where
+  pub points : (cell : Cell) → value_at state.points cell ≡ value_at (after start.points history) cell
+  pub number : state.number ≡ start.number + length history
+
 -- a directory with the points after the history, and with the number of its last entry
 pub record ImageStands (start : State) (history : List Entry) (image : Image) : Type 0 where
   pub directory : IsDirectory image

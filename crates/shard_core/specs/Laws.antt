@@ -1,5 +1,5 @@
 -- Laws of events and of what crashes leave.
-use Rattle.std.specs.Prelude.{◌≡◌, ◌||◌, ℕ, List, [], ◌∷◌, ◌++◌, Some, Bool}
+use Rattle.std.specs.Prelude.{◌≡◌, ◌||◌, IsSome, ℕ, List, ◌∷◌, ◌++◌, Some, Bool}
 use Rattle.std.specs.List.{AllByRecursion}
 use Rattle.std.specs.List.Sorted.{IsStrictlySortedBy}
 use Rattle.std.specs.Map.{keys_of}
@@ -9,27 +9,29 @@ use Rattle.point_model.specs.declared.deletion.Deletion.{Deletion}
 use Rattle.point_model.specs.declared.entry.Entry.{Entry}
 use Rattle.point_model.specs.Acceptance.{IsAccepted, Takes}
 use Rattle.point_model.specs.Deletions.{is_deleted}
-use Rattle.point_model.specs.Points.{Points, cell_cmp}
+use Rattle.point_model.specs.Points.{Points, cell_cmp, value_at}
 use Rattle.point_model.specs.Contents.{live, spared}
 use Rattle.shard_core.specs.Contents.{held}
 use Rattle.shard_core.specs.Crashes.{Crashes, MayLeave, Opens}
 use Rattle.shard_core.specs.DiskEvents.{CompactsIndex, DoubtsEdit, Records, SettlesEdit, StoresChanges, StoresIndex}
 use Rattle.shard_core.specs.EntryEvents.{Deletes, DoubtsEntry, Settles, Writes}
 use Rattle.shard_core.specs.Events.{AreEvents}
-use Rattle.shard_core.specs.Images.{ImageStands, IsDirectory}
+use Rattle.shard_core.specs.Images.{GoesOn, ImageStands, IsDirectory}
 use Rattle.shard_core.specs.Invariant.{Invariant}
 use Rattle.shard_core.specs.MergeEvents.{AbandonsMerge, BeginsMerge, EndsMerge}
 use Rattle.shard_core.specs.Numbers.{named}
 use Rattle.shard_core.specs.SnapshotEvents.{AbandonsSnapshot, BeginsSnapshot, EndsSnapshot}
-use Rattle.shard_core.specs.State.{Core, Image, Merge, Snapshot}
+use Rattle.shard_core.specs.State.{Core, Image, Merge, Snapshot, empty}
 use Rattle.shard_core.specs.Taken.{Accepts, Admits, IsReadable}
 use Rattle.shard_core.specs.ViewEvents.{BeginsView, EndsView, Purges}
 
--- What the fields of a shard give of contents: a layer with one tombstone more is spared by the deletion; an entry that the points
--- take is admitted by what they have, and a batch that is accepted by its values is accepted by the points.
+-- What the fields of a shard give of contents: where tombstones come to cover of each point what the deletion takes away, the deletion
+-- has spared the layer, whatever they cover beside the points; an entry that the points take is admitted by what they have, and a
+-- batch that is accepted by its values is accepted by the points.
 pub record FieldsGiveContents : Type 0 where
-  pub covered : (deletion : Deletion) (points : Points) (covers : Cell → Bool) (cell : Cell)
-      → live points (λ c. covers c || is_deleted deletion c) cell ≡ spared deletion (live points covers) cell
+  pub covered : (deletion : Deletion) (points : Points) (before now : Cell → Bool)
+      → ((cell : Cell) → IsSome (value_at points cell) → now cell ≡ (before cell || is_deleted deletion cell))
+      → (cell : Cell) → live points now cell ≡ spared deletion (live points before) cell
   pub admits : (points : Points) (entry : Entry) → Takes points entry → Admits (held points) entry
   pub accepted : (points : Points) (batch : List Point) → IsStrictlySortedBy cell_cmp (keys_of points) → Accepts (held points) batch → IsAccepted points batch
 
@@ -60,11 +62,12 @@ pub record EventsKeep : Type 0 where
 abbrev pub EveryListKeeps : Type 0
 EveryListKeeps = (core : Core) (rest : List Core) → Invariant core → AreEvents core rest → AllByRecursion Invariant rest
 
--- What a crash may leave stands for the points after the history, or after it and the entry in doubt, and can be read again; and
--- a directory that can be read again is opened to a state that meets the invariant.
+-- What a crash may leave stands for the points after the history, or after it and the entry in doubt, and can be read again; what
+-- is opened then begins there; and a directory that can be read again is opened to a state that meets the invariant.
 pub record CrashesLeave : Type 0 where
   pub stands : (core : Core) → Invariant core → (more : List Entry) (image : Image) → MayLeave core more image → ImageStands core.start (core.history ++ more) image
   pub readable : (core : Core) → Invariant core → (more : List Entry) (image : Image) → MayLeave core more image → IsReadable image
+  pub begins : (old new : Core) (crashes : Crashes old new) → Invariant old → GoesOn old.start (old.history ++ crashes.more) new.start
   pub opens : (image : Image) (core : Core) → IsDirectory image → IsReadable image → Opens image core → Invariant core
 
 -- A snapshot that stands, and each merge, can end, with any unused number for its file; and an empty directory can be opened.
@@ -72,5 +75,6 @@ pub record EventsCome : Type 0 where
   pub end_snapshot : (core : Core) → Invariant core → (snapshot : Snapshot) → core.snapshot ≡ Some snapshot → (no : ℕ) → named core no ≡ 0 → (new : Core) × EndsSnapshot core new
   pub end_merge : (core : Core) → Invariant core → (earlier : List Merge) (merge : Merge) (others : List Merge) → core.merges ≡ earlier ++ merge ∷ others
       → (no : ℕ) → named core no ≡ 0 → (new : Core) × EndsMerge core new
-  pub directory : IsDirectory (record { files = []; floor = 0; entries = [] })
-  pub readable : IsReadable (record { files = []; floor = 0; entries = [] })
+  pub directory : IsDirectory empty
+  pub readable : IsReadable empty
+  pub opens : (new : Core) × Opens empty new

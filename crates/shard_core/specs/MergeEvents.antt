@@ -4,7 +4,7 @@ use Rattle.std.specs.List.{AllByRecursion, flat_map}
 use Rattle.tsdb_types.specs.declared.point.Cell.{Cell}
 use Rattle.point_model.specs.Points.{no_points, value_at}
 use Rattle.point_model.specs.Contents.{overlay}
-use Rattle.shard_core.specs.Numbers.{AreDisjoint, count, named, names_of}
+use Rattle.shard_core.specs.Numbers.{ShareNone, count, named, names_of}
 use Rattle.shard_core.specs.Files.{now_of, source_numbers, tomb_of}
 use Rattle.shard_core.specs.State.{Core, File, Merge}
 
@@ -14,7 +14,7 @@ pub record MayMerge (core : Core) (merge : Merge) : Type 0 where
   pub behind : List File
   pub placed : core.files ≡ before ++ (merge.sources ++ behind)
   pub some : merge.sources ≢ []
-  pub idle : AllByRecursion (AreDisjoint (source_numbers merge)) (map source_numbers core.merges)
+  pub idle : AllByRecursion (ShareNone (source_numbers merge)) (map source_numbers core.merges)
   pub output : (cell : Cell) → value_at merge.output cell ≡ overlay (map now_of merge.sources) cell
   pub now : (cell : Cell) → merge.now cell ≡ value_at merge.output cell
 

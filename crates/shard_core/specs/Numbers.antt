@@ -42,11 +42,7 @@ held_by_merges n (merge ∷ merges) = count n (source_numbers merge) + held_by_m
 abbrev pub ShareNone : List ℕ → List ℕ → Type 0
 ShareNone some others = AllByRecursion (λ n. AllByRecursion (λ other. n ≢ other) others) some
 
--- neither of the two has a number of the other
-abbrev pub AreDisjoint : List ℕ → List ℕ → Type 0
-AreDisjoint some others = ShareNone some others × ShareNone others some
-
 -- no two of the lists have a number in common
 abbrev pub AreApart : List (List ℕ) → Type 0
 AreApart [] = ⊤
-AreApart (some ∷ rest) = AllByRecursion (AreDisjoint some) rest × AreApart rest
+AreApart (some ∷ rest) = AllByRecursion (ShareNone some) rest × AreApart rest

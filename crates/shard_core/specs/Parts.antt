@@ -9,20 +9,20 @@ use Rattle.shard_core.specs.Contents.{held}
 use Rattle.point_model.specs.Effects.{applied, effects, is_deleted_by}
 use Rattle.shard_core.specs.State.{Core, File, Snapshot}
 
--- The cells that later deletions take away aren't live; every other cell is as it was before these deletions.
-pub record Follows (deleted : Cell → Bool) (before now : Content) : Type 0 where
+-- The cells that these deletions take away aren't live; every other cell is as before.
+pub record IsCutBy (deleted : Cell → Bool) (before now : Content) : Type 0 where
   pub hidden : (cell : Cell) → deleted cell ≡ true → now cell ≡ None
   pub kept : (cell : Cell) → deleted cell ≡ false → now cell ≡ before cell
 
 -- a file is as the disk has it, under the deletions of these entries
-abbrev pub FileFollows : List Entry → File → Type 0
-FileFollows entries file = Follows (is_deleted_by entries) file.stored.content file.now
+abbrev pub FileIsCut : List Entry → File → Type 0
+FileIsCut entries file = IsCutBy (is_deleted_by entries) file.stored.content file.now
 
 -- The snapshot has what the first entries leave on no points, under the deletions of the second ones; its number is that of the
 -- last of the first.
 pub record SnapshotIs (floor : ℕ) (first second : List Entry) (snapshot : Snapshot) : Type 0 where
   pub points : (cell : Cell) → value_at snapshot.points cell ≡ applied (effects first cell) None
-  pub follows : Follows (is_deleted_by second) (held snapshot.points) snapshot.now
+  pub follows : IsCutBy (is_deleted_by second) (held snapshot.points) snapshot.now
   pub counted : snapshot.number ≡ floor + length first
 
 -- where there is no snapshot there are no first entries
@@ -41,4 +41,4 @@ pub record Parts (core : Core) : Type 0 where
   pub floor : core.floor ≡ core.origin + length settled
   pub cache : (cell : Cell) → value_at core.cache cell ≡ applied (effects second cell) None
   pub snapshot : IfSnapshotIs core.floor first second core.snapshot
-  pub files : AllByRecursion (FileFollows (first ++ second)) core.files
+  pub files : AllByRecursion (FileIsCut (first ++ second)) core.files

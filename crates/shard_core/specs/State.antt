@@ -1,5 +1,5 @@
 -- What is the state of the engine, as plain data?
-use Rattle.std.specs.Prelude.{ℕ, ◌+◌, Bool, List, length, Option}
+use Rattle.std.specs.Prelude.{ℕ, ◌+◌, Bool, List, [], length, Option}
 use Rattle.point_model.specs.declared.entry.Entry.{Entry}
 use Rattle.point_model.specs.Histories.{State, after}
 use Rattle.point_model.specs.Cursors.{Key}
@@ -42,6 +42,10 @@ pub record Image : Type 0 where
   pub files : List Stored
   pub floor : ℕ
   pub entries : List Entry
+
+-- a directory without files and entries
+abbrev pub empty : Image
+empty = record { files = []; floor = 0; entries = [] }
 
 -- The points and the number at opening, the floor then, the entries that the directory had past it, and those since. Files, oldest
 -- first; the entry and the edit that may have been made, the edit as the directory that it leaves; index and stored index as sets.

@@ -5,9 +5,7 @@ use Rattle.std.specs.Map.{keys_of}
 use Rattle.tsdb_types.specs.Names.{IsName}
 use Rattle.tsdb_types.specs.Series.{measurement_ends_at, tags_text, series_text, is_series_of, IsSeriesText}
 use Rattle.tsdb_types.specs.declared.tag.Tag.{Tag}
-use Rattle.point_model.specs.declared.condition.TagCond.{the_lemmas}
-use Rattle.point_model.specs.declared.condition.TagCond.TheVariants as condition
-use Rattle.point_model.specs.Conditions.{meets}
+use Rattle.point_model.specs.Conditions.{True, meets}
 use Rattle.point_model.specs.Cursors.{Key}
 use Rattle.point_model.specs.Tags.{parts_behind}
 use Rattle.point_model.proofs.TagLemmas.{Named, over-rest, tags-rest, one-tag, key-of-part}
@@ -147,10 +145,10 @@ and_true true = refl
 and_true false = refl
 
 -- each series meets it
-pub always_met : (series : List ℕ) → meets condition.True series ≡ true
-always_met series = search (rules, the_lemmas)
+pub always_met : (series : List ℕ) → meets True series ≡ true
+always_met series = refl
 
-pub of_whole : (measurement series : List ℕ) → is_series_of measurement series ≡ (is_series_of measurement series && meets condition.True series)
+pub of_whole : (measurement series : List ℕ) → is_series_of measurement series ≡ (is_series_of measurement series && meets True series)
 of_whole measurement series =
     and_true (is_series_of measurement series) ∙ ap (λ (b : Bool). is_series_of measurement series && b) (sym (always_met series))
 

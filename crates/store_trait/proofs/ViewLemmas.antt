@@ -14,10 +14,8 @@ use Rattle.tsdb_types.specs.declared.value.Value.{Value}
 use Rattle.tsdb_types.specs.declared.value.Kind.{Kind}
 use Rattle.point_model.specs.declared.names.Names.{Names}
 use Rattle.point_model.specs.declared.need.Need.{Need}
-use Rattle.point_model.specs.declared.condition.TagCond.{TagCond}
-use Rattle.point_model.specs.declared.condition.TagCond.TheVariants as condition
 use Rattle.point_model.specs.Acceptance.{IsSound}
-use Rattle.point_model.specs.Conditions.{meets}
+use Rattle.point_model.specs.Conditions.{Condition, meets}
 use Rattle.point_model.specs.Cursors.{Key, Shown, Gives, AreFields, AreTagKeys, AreKeys, cell_at, rows_needed}
 use Rattle.point_model.specs.Measurements.{measurement_head}
 use Rattle.point_model.specs.Points.{Points, cell_cmp}
@@ -62,7 +60,7 @@ module _ (slots : Slots) (samples : Samples) (points : Points) (fits : Fits slot
 -- ---- the tag keys
 
 -- each series meets it
-abbrev pub IsAlwaysMet : TagCond → Type 0
+abbrev pub IsAlwaysMet : Condition → Type 0
 IsAlwaysMet tags = (series : List ℕ) → meets tags series ≡ true
 
 -- a measurement has one text

@@ -8,9 +8,8 @@ use Rattle.tsdb_types.specs.Values.{kind_of}
 use Rattle.tsdb_types.specs.declared.point.Cell.{Cell}
 use Rattle.tsdb_types.specs.declared.value.Value.{Value}
 use Rattle.tsdb_types.specs.declared.value.Kind.{Kind}
-use Rattle.point_model.specs.declared.condition.TagCond.TheVariants as condition
 use Rattle.point_model.specs.declared.need.Need.{Need}
-use Rattle.point_model.specs.Conditions.{meets}
+use Rattle.point_model.specs.Conditions.{True, meets}
 use Rattle.point_model.specs.Cursors.{Key, in_order}
 use Rattle.point_model.specs.Rows.{Row}
 use Rattle.store_trait.specs.Slots.{Rows, Fields, Slots, Samples, slot_at, held, text_cmp}
@@ -47,7 +46,7 @@ listed need (entry ∷ entries) =
 
 -- the need of all series of its measurement
 abbrev pub whole : Need → Need
-whole need = record need { tags = condition.True }
+whole need = record need { tags = True }
 
 -- the texts of the series that the need asks for are keys of series
 abbrev pub AreSeriesTexts : Need → List (List ℕ × Fields) → Type 0

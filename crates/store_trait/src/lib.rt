@@ -12,8 +12,6 @@ mod samples;
 mod slots;
 mod store;
 mod tags;
-#[cfg(test)]
-mod tests;
 
 pub use fault::{ViewFault, WriteFault};
 pub use list_view::ListView;

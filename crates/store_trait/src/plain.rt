@@ -33,12 +33,12 @@ pub struct PlainStore {
 impl Model for PlainStore {
     ghost use Rattle.store_trait.specs.Told.{Told};
     ghost use Rattle.store_trait.specs.Plain.{told_of, Holds};
-    ghost use Rattle.point_model.specs.contracts.condition.TagCond as tag_condition;
+    ghost use Rattle.point_model.specs.ConditionCode.{condition_code};
     ghost use Rattle.std.specs.Coded.{codes};
 
     ghost Value = { Told };
 
-    ghost coded = { Prim.hlevel (codes, tag_condition.the_row.coded) };
+    ghost coded = { Prim.hlevel (codes, condition_code) };
 
     ghost view = { λ s. told_of s.client s.batches.items s.views };
 

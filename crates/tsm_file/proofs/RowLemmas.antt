@@ -1,5 +1,5 @@
 -- The keys of an index ascend, so a key has one row.
-use Rattle.std.proofs.Common.{◌≡◌, ℕ, zero, suc, ◌+◌, ◌<◌, List, [], ◌∷◌, length, get_or, Option, None, Some, inl, inr, sym, ap, ◌∙◌, arith}
+use Rattle.std.proofs.Common.{◌≡◌, ℕ, zero, suc, ◌+◌, ◌<◌, List, [], ◌∷◌, length, get_or, Option, None, Some, slice_get, inl, inr, refl, sym, ap, ◌∙◌, subst, arith}
 use Rattle.std.specs.List.Sorted.{IsSortedBy}
 use Rattle.std.specs.Ordering.{nat_cmp, is_eq, is_lt, ordering_reverse}
 use Rattle.std.specs.declared.cmp.Ordering.TheVariants.{Less, Equal, Greater}
@@ -8,10 +8,11 @@ use Rattle.std.proofs.lemmas.Cmp.{tied_itself}
 use Rattle.std.proofs.Math.Nat.{eq-or-lt_of_le}
 use Rattle.std.proofs.lemmas.Bool.{cases_lt}
 use Rattle.std.proofs.lemmas.List.{get_or_default}
+use Rattle.std.proofs.lemmas.Option.{get_or_from_slice_get, slice_get_within}
 use Rattle.std.proofs.lemmas.Slice.Eq.{bytes_eq-Decides}
 use Rattle.std.proofs.lemmas.Map.Text.{is_eq-slice_cmp}
 use Rattle.tsm_format.specs.declared.row.KeyRow.{KeyRow}
-use Rattle.tsm_format.specs.Rows.{AreEntries, AreRows, size_of}
+use Rattle.tsm_format.specs.Rows.{AreEntries, AreRows, first_block, size_of}
 use Rattle.tsm_file.specs.ReadIndex.{HasKey}
 
 pub same_key : (a b : List ℕ) → slice_cmp nat_cmp a b ≡ Equal → a ≡ b
@@ -77,3 +78,18 @@ one_row last place rows key a b are has has' =
         | inr gt ↦ absurd (not_two last place rows j i b a are gt has.0.1 at' at (sym same))
       ]
     ]
+
+pub item_at : (rows : List KeyRow) (k : ℕ) → k < length rows → (row : KeyRow) × (slice_get rows k ≡ Some row)
+item_at [] k h = absurd (omega arith)
+item_at (x ∷ xs) zero h = (x, refl)
+item_at (x ∷ xs) (suc k) h = item_at xs k (omega arith)
+
+-- the row at a place, as a search found it there
+pub has_at : (rows : List KeyRow) (key : List ℕ) (k : ℕ) (found row : KeyRow) → slice_get rows k ≡ Some found → found.key ≡ key → row ≡ get_or rows k row → HasKey rows key row
+has_at rows key k found row at is read =
+    let within = slice_get_within rows k found at in
+    let same : row ≡ found = read ∙ get_or_from_slice_get rows k found row at in
+    ((k, within, sym read), ap (λ (r : KeyRow). r.key) same ∙ is)
+
+pub row_blocks_at : (rows : List KeyRow) (k : ℕ) (row : KeyRow) → k < length rows → row ≡ get_or rows k row → AreRows None first_block rows → (at : ℕ) × AreEntries None at row.entries
+row_blocks_at rows k row h read are = subst (λ (r : KeyRow). (at : ℕ) × AreEntries None at r.entries) (sym read) (row_blocks None first_block rows k row h are)

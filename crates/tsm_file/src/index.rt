@@ -1,4 +1,4 @@
-ghost use Rattle.std.specs.Prelude.{◌≡◌, ◌<◌, ℕ, length, slice_get, None, IfSome, IfNone};
+ghost use Rattle.std.specs.Prelude.{◌≡◌, ◌<◌, ℕ, length, slice_get, Some, None, IfSome, IfNone};
 ghost use Rattle.tsm_format.specs.declared.row.KeyRow.{KeyRow};
 ghost use Rattle.tsm_format.specs.Rows.{AreEntries, AreIndex, end_of};
 ghost use Rattle.tsm_file.specs.ReadIndex.{HasKey, LacksKey};
@@ -61,16 +61,27 @@ impl TsmIndex {
         }
     }
 
+    /// The place of a key among those of the file, by binary search. `None` where the file doesn't have the key.
+    pub fn position(&self, key: &[u8]) -> Option<usize>
+        ensures found { IfSome result (λ k. (row : KeyRow) × (slice_get self.now.rows k ≡ Some row) × (row.key ≡ key.now)) }
+        ensures none { IfNone result (LacksKey self.now.rows key.now) }
+    {
+        let rows = self.rows.as_slice();
+        match rows.binary_search_by(|row| row.key.as_slice().cmp(key)) {
+            Ok(k) => Some(k),
+            Err(_) => None,
+        }
+    }
+
     /// The row of a key.
     pub(crate) fn find(&self, key: &[u8]) -> Option<&KeyRow>
         ensures found { IfSome result (λ row. HasKey self.now.rows key.now row.now) }
         ensures none { IfNone result (LacksKey self.now.rows key.now) }
         ensures blocks { IfSome result (λ row. (place : ℕ) × AreEntries None place row.now.entries) }
     {
-        let rows = self.rows.as_slice();
-        match rows.binary_search_by(|row| row.key.as_slice().cmp(key)) {
-            Ok(k) => Some(&rows[k]),
-            Err(_) => None,
+        match self.position(key) {
+            Some(k) => Some(&self.rows[k]),
+            None => None,
         }
     }
 

@@ -50,12 +50,13 @@ pub record TellsTranscript (closed : Closed) (transcript : Transcript) : Type 0 
   pub moments : IsTold closed.moments transcript.moments
   pub written : IsTold closed.written transcript.written
 
--- why a session ended so: its source has ended, or the count of a device rose from 0; want of memory has no cause
+-- Why a session ended so: its source has ended, or the count of a device rose from 0; want of memory has no cause. No other
+-- device has met a fault.
 abbrev pub HasEnded : Closed → End → Type 0
-HasEnded closed Read = IsTrue closed.ended
-HasEnded closed SourceFault = Rose 0 closed.source_faults
-HasEnded closed SinkFault = Rose 0 closed.sink_faults
-HasEnded closed Memory = Unit {0}
+HasEnded closed Read = IsTrue closed.ended × (closed.source_faults ≡ 0) × (closed.sink_faults ≡ 0)
+HasEnded closed SourceFault = Rose 0 closed.source_faults × (closed.sink_faults ≡ 0)
+HasEnded closed SinkFault = Rose 0 closed.sink_faults × (closed.source_faults ≡ 0)
+HasEnded closed Memory = (closed.source_faults ≡ 0) × (closed.sink_faults ≡ 0)
 
 -- The client was served until its session ended so, and closed as it then was. One history from nothing explains its
 -- transcript; what it read is a front of what its source had left, and all of that where the session ended with the input.
@@ -82,9 +83,9 @@ module _ {S K C : Type 0} (members : Devices S K C) (words : List Word) (old new
   abbrev pub EndedByFault : Type 0
   EndedByFault = ((now ≡ before) × Rose old.faults new.faults) ⊎ (ServedOne SourceFault ⊎ ServedOne SinkFault)
 
-  -- There was no memory to open the client, or for its session or its sink.
+  -- There was no memory to open the client, or for its session or its sink; no device has met a fault.
   abbrev pub EndedByMemory : Type 0
-  EndedByMemory = (now ≡ before) ⊎ ServedOne Memory
+  EndedByMemory = ((now ≡ before) × (new ≡ old)) ⊎ ServedOne Memory
 
   -- why the program ended so; words that are no command open nothing
   abbrev pub HasCause : Status → Type 0

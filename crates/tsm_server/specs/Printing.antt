@@ -1,5 +1,6 @@
 -- Which status has the program, and what does it print?
-use Rattle.std.specs.Prelude.{◌≡◌, ℕ, List, [], ◌∷◌, ◌++◌, codes, Option}
+use Rattle.std.specs.Prelude.{◌≡◌, ◌⊎◌, ℕ, List, [], ◌∷◌, ◌++◌, codes, Option}
+use Rattle.shard_disk.specs.Health.{Health, Failed, Rose}
 use Rattle.session_io.specs.Streams.{Grows}
 use Rattle.tsm_server.specs.declared.status.Status.{Status}
 use Rattle.tsm_server.specs.declared.status.Status.TheVariants.{Served, NoCommand, Fault, NoMemory}
@@ -18,9 +19,23 @@ line_of NoCommand = codes "usage: tsmd mem IN OUT" ++ 10 ∷ []
 line_of Fault = codes "fault" ++ 10 ∷ []
 line_of NoMemory = codes "memory" ++ 10 ∷ []
 
--- A sink took a front of the bytes, which may be all of them.
-pub record TakesFront (bytes : List ℕ) (old new : Option (List ℕ)) : Type 0 where
+-- what a sink tells of itself
+pub record Said : Type 0 where
+  pub written : Option (List ℕ)
+  pub health : Health
+  pub wants : ℕ
+
+abbrev pub said : {K : Type 0} → (K → Option (List ℕ)) → (K → Health) → (K → ℕ) → K → Said
+said written health wants sink = record { written = written sink; health = health sink; wants = wants sink }
+
+-- The sink refused bytes since: it failed, or had no memory for them.
+abbrev pub HasRefused : Said → Said → Type 0
+HasRefused old new = Failed old.health new.health ⊎ Rose old.wants new.wants
+
+-- A sink took the bytes, or a front of them where it refused what is missing.
+pub record Takes (bytes : List ℕ) (old new : Said) : Type 0 where
   pub front : List ℕ
   pub rest : List ℕ
   pub whole : bytes ≡ front ++ rest
-  pub taken : Grows old new front
+  pub taken : Grows old.written new.written front
+  pub all : (rest ≡ []) ⊎ HasRefused old new

@@ -6,8 +6,9 @@ ghost use Rattle.session_io.specs.Clients.{closed_client};
 use session_io::{Client, Desk, HostClock, HostSink, HostSource, Report, Sink, Source};
 use shard_disk::Trouble;
 use std::alloc::Global;
-use std::fs::File;
+use std::fs::{File, Metadata, OpenOptions};
 use std::io::{self, ErrorKind, Read, Stdin, Stdout, Write};
+use std::os::unix::fs::MetadataExt;
 
 /// The name of the standard input and of the standard output.
 const STANDARD: &str = "-";
@@ -53,8 +54,8 @@ impl Write for Output {
 
 type HostClient = Client<HostSource<Input>, HostSink<Output>, HostClock<HostRuntime>>;
 
-/// Opens files by their names: the input is read, and the output is made anew. `-` stands for a standard stream. What
-/// it has closed ends with it.
+/// Opens files by their names: the input is read, and the output is made anew. `-` stands for a standard stream. Input and
+/// output that are one regular file are a fault, which leaves it as it was. What is closed ends with the desk.
 #[derive(Drop)]
 pub struct HostDesk {
     rt: HostRuntime,
@@ -140,7 +141,27 @@ fn open_streams(rt: HostRuntime, input: &str, output: &str) -> io::Result<(Input
     let output = if output == STANDARD {
         Output::Standard(rt.stdout())
     } else {
-        Output::File(File::create(&rt, output)?)
+        Output::File(open_output(rt, &input, output)?)
     };
     Ok((input, output))
+}
+
+// The output is emptied only where it isn't the file that is read.
+fn open_output(rt: HostRuntime, input: &Input, path: &str) -> io::Result<File> {
+    let file = OpenOptions::new().write(true).create(true).open(&rt, path)?;
+    let opened = file.metadata()?;
+    if let Input::File(source) = input
+        && is_same_file(&source.metadata()?, &opened)
+    {
+        return Err(io::Error::from(ErrorKind::InvalidInput));
+    }
+    if opened.is_file() {
+        file.set_len(0)?;
+    }
+    Ok(file)
+}
+
+// Whether both are one regular file. A terminal may be read and written.
+fn is_same_file(one: &Metadata, other: &Metadata) -> bool {
+    one.is_file() && one.dev() == other.dev() && one.ino() == other.ino()
 }

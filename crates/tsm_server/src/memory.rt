@@ -1,6 +1,6 @@
 //! One client over a store in memory.
 ghost use Rattle.std.specs.Prelude.{◌≡◌, true};
-ghost use Rattle.session_loop.specs.Sessions.{IsServed, told};
+ghost use Rattle.session_loop.specs.Sessions.{IsServed, IsQuietEnd, told};
 ghost use Rattle.shard_disk.specs.Health.{Ages, Failed};
 
 use crate::gate::OpenGate;
@@ -27,6 +27,7 @@ pub fn mem<S: Source, K: Sink, C: Clock>(
 
     ensures source_ages { Ages (S.health source.old) (S.health source.new) }
     ensures sink_ages { Ages (K.health sink.old) (K.health sink.new) }
+    ensures quiet { IsQuietEnd result.end (S.health source.old) (S.health source.new) (K.health sink.old) (K.health sink.new) }
 {
     let mut store = PlainStore::new(alloc, 0);
     session(alloc, &mut store, source, sink, clock, &OpenGate, 0)

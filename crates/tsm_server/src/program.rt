@@ -5,7 +5,7 @@ ghost use Rattle.session_io.specs.declared.client.Word.{Word};
 ghost use Rattle.session_io.specs.declared.report.End.{End};
 ghost use Rattle.session_io.specs.declared.report.End.TheVariants.{Read};
 ghost use Rattle.tsm_server.specs.Words.{IsCommand, AsksMem};
-ghost use Rattle.tsm_server.specs.Printing.{TakesFront, code_of, line_of};
+ghost use Rattle.tsm_server.specs.Printing.{Takes, said, code_of, line_of};
 ghost use Rattle.tsm_server.specs.Outcomes.{ServedOne, ClosesOne, EndedByFault, EndedByMemory, HasCause, WillServe, devices, status_by};
 ghost use Rattle.tsm_server.specs.declared.status.Status.{Status as Ending};
 
@@ -18,7 +18,8 @@ use std::alloc::Global;
 
 /// Does what the words ask for: `mem IN OUT` serves one client over a store in memory, from the input IN to the output
 /// OUT. Prints the line of the status that it answers; a refusal of `out` changes no status. `rt` and `gate` stand for
-/// the system and for places where tests may hold a session; no command needs them yet.
+/// the system and for places where tests may hold a session; no command needs them yet. The line is printed whole unless `out`
+/// refuses it.
 pub fn tsmd<R, K: Desk, G: Gate>(
     _rt: &R,
     alloc: Global,
@@ -27,7 +28,8 @@ pub fn tsmd<R, K: Desk, G: Gate>(
     out: &mut K::Sink,
     _gate: &G,
 ) -> u8
-    ensures status { (status : Ending) × (result ≡ code_of status) × TakesFront (line_of status) (K.Sink.written out.old) (K.Sink.written out.new) }
+    ensures status { (status : Ending) × (result ≡ code_of status) × Takes (line_of status)
+        (said K.Sink.written K.Sink.health K.Sink.wants out.old) (said K.Sink.written K.Sink.health K.Sink.wants out.new) }
     ensures no_command { (result ≡ 1) ↔ (¬ (IsCommand words.now)) }
     ensures refused { result ≡ 1 → K.closed desk.new ≡ K.closed desk.old }
     ensures served { result ≡ 0 → ServedOne (devices K.Source.given K.Source.left K.Source.ended K.Source.health
@@ -48,7 +50,7 @@ pub fn tsmd<R, K: Desk, G: Gate>(
 
 /// Prints the line of the status, and answers its number.
 pub fn end<K: Sink>(out: &mut K, status: Status) -> u8
-    ensures printed { TakesFront (line_of status) (K.written out.old) (K.written out.new) }
+    ensures printed { Takes (line_of status) (said K.written K.health K.wants out.old) (said K.written K.health K.wants out.new) }
     ensures code { result ≡ code_of status }
 {
     print(out, status.line());
@@ -120,9 +122,9 @@ fn status_of(end: End) -> Status
     }
 }
 
-/// Writes what the sink takes of a line.
+/// Writes the line, or what the sink takes of it until it refuses.
 fn print<K: Sink>(out: &mut K, line: &[u8])
-    ensures { TakesFront line.now (K.written out.old) (K.written out.new) }
+    ensures { Takes line.now (said K.written K.health K.wants out.old) (said K.written K.health K.wants out.new) }
 {
     let mut rest = line;
     while !rest.is_empty() {

@@ -1,7 +1,7 @@
 //! Runs of the program over desks in memory.
 mod faults;
+mod host;
 mod rows;
-mod short;
 
 use crate::{OpenGate, tsmd};
 use session_io::{Client, Closed, Desk, MemClock, MemDesk, MemSink, MemSource, Word};

@@ -5,7 +5,7 @@ use Rattle.fixed_width.specs.Fields.{bytes_of_u32, bytes_of_i64}
 use Rattle.fixed_width.proofs.Fronts.{length-u32, length-i64, same_u32, same_i64}
 use Rattle.tsdb_types.specs.Moments.{IsMoment}
 use Rattle.tsdb_types.specs.declared.point.Point.{Point}
-use Rattle.point_model.specs.declared.condition.TagCond.{TagCond}
+use Rattle.point_model.specs.Conditions.{Condition}
 use Rattle.point_model.specs.declared.deletion.Deletion.{Deletion}
 use Rattle.point_model.specs.declared.entry.Entry.{Entry}
 use Rattle.point_model.specs.declared.entry.Entry.TheVariants.{Write, Delete}

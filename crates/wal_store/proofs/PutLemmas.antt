@@ -1,173 +1,87 @@
--- A condition is put side by side.
-use Rattle.std.proofs.Common.{◌≡◌, ℕ, ◌<◌, ◌≤◌, List, [], ◌∷◌, ◌++◌, length, reverse, sym, ap, subst, ◌∙◌, arith, Bor}
+-- A condition is put part by part.
+use Rattle.std.proofs.Common.{◌≡◌, ℕ, ◌+◌, ◌<◌, ◌≤◌, List, [], ◌∷◌, ◌++◌, length, take, get_or, Option, Some, None, refl, sym, ap, subst, ◌∙◌}
 use Rattle.std.specs.List.{flat_map, AllByRecursion, All}
-use Rattle.std.proofs.lemmas.List.Elements.{recursion_from_All}
-use Rattle.std.proofs.lemmas.List.{append_assoc, append-nil, length-append, reverse-append}
-use Rattle.point_model.specs.Conditions.{texts_of, texts_level}
-use Rattle.point_model.specs.declared.condition.TagCond.{TagCond}
-use Rattle.point_model.specs.declared.condition.TagCond.TheFolds.{fold-roll-TagCond}
-use Rattle.point_model.specs.declared.condition.TagCond.TheOpen.{TagCond-F}
-use Rattle.point_model.specs.declared.condition.TagCond.TheVariants.{True, Eq, Ne, And, Or, rolls-True, rolls-Eq, rolls-Ne, rolls-And, rolls-Or}
-use Rattle.wal_store.specs.Form.{text_bytes}
-use Rattle.wal_store.specs.Conditions.{condition_bytes, AreComparisons, IsComparison}
-use Rattle.wal_store.proofs.ConditionLemmas.{bytes-True, bytes-Eq, bytes-Ne, bytes-And, bytes-Or, comparisons-True, comparisons-Eq, comparisons-Ne, and_of_sides, or_of_sides, all_front, has_bytes}
+use Rattle.std.proofs.lemmas.List.Elements.{recursion_from_All, All-from_recursion, All-get_or}
+use Rattle.std.proofs.lemmas.List.{append_assoc, append-nil, take_more}
+use Rattle.point_model.specs.Conditions.{Condition, True, Eq, Ne, And, Or, texts_of}
+use Rattle.point_model.specs.Flat.{parts_of}
+use Rattle.point_model.specs.declared.part.Join.{Join}
+use Rattle.point_model.specs.declared.part.Join.TheVariants as join
+use Rattle.point_model.specs.declared.part.Part.{Part}
+use Rattle.wal_store.specs.Conditions.{condition_bytes, part_bytes, AreComparisons, HasShortPart, IsComparison, IsPart}
+use Rattle.wal_store.proofs.ConditionLemmas.{all_front, all_both}
 
--- each text has room
-abbrev pub HasRoom : TagCond → Type 0
-HasRoom condition = AllByRecursion (λ (text : List ℕ). length text ≤ 65535) (texts_of condition)
+abbrev pub Parts : Type 0
+Parts = List (Option Join × Part)
 
-abbrev Texts : Type 0
-Texts = List (List ℕ)
+abbrev pub bytes_at : Option Join × Part → List ℕ
+bytes_at part = part_bytes part.1
 
-pub texts-True : texts_of True ≡ []
-texts-True = ap texts_of (sym rolls-True) ∙ fold-roll-TagCond Texts texts_level TagCond-F.True
+abbrev pub IsPartAt : Option Join × Part → Type 0
+IsPartAt part = IsPart part.1
 
-pub texts-Eq : (key text : List ℕ) → texts_of (Eq key text) ≡ key ∷ text ∷ []
-texts-Eq key text = ap texts_of (sym (rolls-Eq key text)) ∙ fold-roll-TagCond Texts texts_level (TagCond-F.Eq key text)
+abbrev pub HasShortAt : Option Join × Part → Type 0
+HasShortAt part = HasShortPart part.1
 
-pub texts-Ne : (key text : List ℕ) → texts_of (Ne key text) ≡ key ∷ text ∷ []
-texts-Ne key text = ap texts_of (sym (rolls-Ne key text)) ∙ fold-roll-TagCond Texts texts_level (TagCond-F.Ne key text)
+abbrev pub IsShort : List ℕ → Type 0
+IsShort text = length text ≤ 65535
 
-pub texts-And : (first second : TagCond) → texts_of (And first second) ≡ texts_of first ++ texts_of second
-texts-And first second = ap texts_of (sym (rolls-And first second)) ∙ fold-roll-TagCond Texts texts_level (TagCond-F.And first second)
+pub flat_both : (first second : Parts) → flat_map bytes_at (first ++ second) ≡ flat_map bytes_at first ++ flat_map bytes_at second
+flat_both [] second = refl
+flat_both (part ∷ first) second = ap (λ (bytes : List ℕ). bytes_at part ++ bytes) (flat_both first second) ∙ sym (append_assoc (bytes_at part) (flat_map bytes_at first) (flat_map bytes_at second))
 
-pub texts-Or : (first second : TagCond) → texts_of (Or first second) ≡ texts_of first ++ texts_of second
-texts-Or first second = ap texts_of (sym (rolls-Or first second)) ∙ fold-roll-TagCond Texts texts_level (TagCond-F.Or first second)
+pub parts_bytes : (c : Condition) (of : Option Join) → flat_map bytes_at (parts_of of c) ≡ condition_bytes c
+parts_bytes True of = refl
+parts_bytes (Eq key text) of = append-nil (condition_bytes (Eq key text))
+parts_bytes (Ne key text) of = append-nil (condition_bytes (Ne key text))
+parts_bytes (And a b) of =
+    ap (λ (bytes : List ℕ). 3 ∷ bytes)
+    (flat_both (parts_of None a) (parts_of (Some join.And) b) ∙ ap (λ (bytes : List ℕ). bytes ++ flat_map bytes_at (parts_of (Some join.And) b)) (parts_bytes a None) ∙ ap (λ (bytes : List ℕ). condition_bytes a ++ bytes) (parts_bytes b (Some join.And)))
+parts_bytes (Or a b) of =
+    ap (λ (bytes : List ℕ). 4 ∷ bytes)
+    (flat_both (parts_of None a) (parts_of (Some join.Or) b) ∙ ap (λ (bytes : List ℕ). bytes ++ flat_map bytes_at (parts_of (Some join.Or) b)) (parts_bytes a None) ∙ ap (λ (bytes : List ℕ). condition_bytes a ++ bytes) (parts_bytes b (Some join.Or)))
 
-abbrev pub bytes_now : Bor TagCond → List ℕ
-bytes_now side = condition_bytes side.now
+pub parts_short : (c : Condition) (of : Option Join) → AllByRecursion IsShort (texts_of c) → AllByRecursion HasShortAt (parts_of of c)
+parts_short True of short = (tt, tt)
+parts_short (Eq key text) of short = ((short.0, short.1.0), tt)
+parts_short (Ne key text) of short = ((short.0, short.1.0), tt)
+parts_short (And a b) of short =
+    let sides = all_front IsShort (texts_of a) (texts_of b) short in
+    (tt, all_both HasShortAt (parts_of None a) (parts_of (Some join.And) b) (parts_short a None sides.0) (parts_short b (Some join.And) sides.1))
+parts_short (Or a b) of short =
+    let sides = all_front IsShort (texts_of a) (texts_of b) short in
+    (tt, all_both HasShortAt (parts_of None a) (parts_of (Some join.Or) b) (parts_short a None sides.0) (parts_short b (Some join.Or) sides.1))
 
--- These sides are still to be put, the first one next.
-pub record Putting (whole : TagCond) (before out : List ℕ) (sides : List (Bor TagCond)) : Type 0 where
-  pub bytes : out ++ flat_map bytes_now sides ≡ before ++ condition_bytes whole
-  pub room : AllByRecursion (λ (side : Bor TagCond). HasRoom side.now) sides
-  pub all : AllByRecursion (λ (side : Bor TagCond). AreComparisons side.now) sides → AreComparisons whole
+pub parts_compared : (c : Condition) (of : Option Join) → AllByRecursion IsPartAt (parts_of of c) → AreComparisons c
+parts_compared True of all = tt
+parts_compared (Eq key text) of all = (all.0, tt)
+parts_compared (Ne key text) of all = (all.0, tt)
+parts_compared (And a b) of all =
+    let sides = all_front IsPartAt (parts_of None a) (parts_of (Some join.And) b) all.1 in
+    all_both IsComparison _ _ (parts_compared a None sides.0) (parts_compared b (Some join.And) sides.1)
+parts_compared (Or a b) of all =
+    let sides = all_front IsPartAt (parts_of None a) (parts_of (Some join.Or) b) all.1 in
+    all_both IsComparison _ _ (parts_compared a None sides.0) (parts_compared b (Some join.Or) sides.1)
 
-pub putting_none : (before : List ℕ) (side : Bor TagCond) → HasRoom side.now → Putting side.now before before (side ∷ [])
-putting_none before side room = record { bytes = ap (λ (l : List ℕ). before ++ l) (append-nil (condition_bytes side.now)); room = (room, tt); all = λ all. all.0 }
+pub short_parts : (c : Condition) → All IsShort (texts_of c) → AllByRecursion HasShortAt (parts_of None c)
+short_parts c all = parts_short c None (recursion_from_All IsShort (texts_of c) all)
 
--- a condition without sides is put
-pub putting_leaf : (whole : TagCond) (before out next : List ℕ) (sides : List (Bor TagCond)) (side : Bor TagCond) (leaf : TagCond) → Putting whole before out (side ∷ sides) → side.now ≡ leaf → next ≡ out ++ condition_bytes leaf → AreComparisons leaf
-    → Putting whole before next sides
-putting_leaf whole before out next sides side leaf putting is put one = record {
-  bytes = ap (λ (l : List ℕ). l ++ flat_map bytes_now sides) (put ∙ ap (λ (c : TagCond). out ++ condition_bytes c) (sym is)) ∙ append_assoc out (condition_bytes side.now) (flat_map bytes_now sides) ∙ putting.bytes;
-  room = putting.room.1;
-  all = λ all. putting.all (subst AreComparisons (sym is) one, all);
-}
+all_at : {X : Type 0} (P : X → Type 0) (xs : List X) (k : ℕ) (x : X) → AllByRecursion P xs → k < length xs → x ≡ get_or xs k x → P x
+all_at P xs k x all within is = subst P (sym is) (All-get_or P xs k x within (All-from_recursion P xs all))
 
-split : (out : List ℕ) (kind : ℕ) (f g more : List ℕ) → (out ++ kind ∷ []) ++ (f ++ (g ++ more)) ≡ out ++ ((kind ∷ (f ++ g)) ++ more)
-split out kind f g more = append_assoc out (kind ∷ []) (f ++ (g ++ more)) ∙ ap (λ (l : List ℕ). out ++ (kind ∷ l)) (sym (append_assoc f g more))
+-- the texts of each part are short
+pub short_at : (c : Condition) (items : Parts) (k : ℕ) (placed : Option Join × Part) → All IsShort (texts_of c) → items ≡ parts_of None c → k < length items → placed ≡ get_or items k placed → HasShortPart placed.1
+short_at c items k placed short are within is = all_at HasShortAt items k placed (subst (AllByRecursion HasShortAt) (sym are) (short_parts c short)) within is
 
-pub putting_and : (whole : TagCond) (before out next : List ℕ) (sides : List (Bor TagCond)) (side first second : Bor TagCond) → Putting whole before out (side ∷ sides) → side.now ≡ And first.now second.now → next ≡ out ++ 3 ∷ []
-    → Putting whole before next (first ∷ second ∷ sides)
-putting_and whole before out next sides side first second putting is put = record {
-  bytes = ap (λ (l : List ℕ). l ++ (condition_bytes first.now ++ (condition_bytes second.now ++ flat_map bytes_now sides))) put ∙ split out 3 (condition_bytes first.now) (condition_bytes second.now) (flat_map bytes_now sides)
-      ∙ ap (λ (l : List ℕ). out ++ (l ++ flat_map bytes_now sides)) (sym (bytes-And first.now second.now) ∙ ap condition_bytes (sym is)) ∙ putting.bytes;
-  room = let both = all_front (λ (text : List ℕ). length text ≤ 65535) (texts_of first.now) (texts_of second.now) (subst (AllByRecursion (λ (text : List ℕ). length text ≤ 65535)) (ap texts_of is ∙ texts-And first.now second.now) putting.room.0) in
-      (both.0, (both.1, putting.room.1));
-  all = λ all. putting.all (subst AreComparisons (sym is) (and_of_sides first.now second.now all.0 all.1.0), all.1.1);
-}
-
-pub putting_or : (whole : TagCond) (before out next : List ℕ) (sides : List (Bor TagCond)) (side first second : Bor TagCond) → Putting whole before out (side ∷ sides) → side.now ≡ Or first.now second.now → next ≡ out ++ 4 ∷ []
-    → Putting whole before next (first ∷ second ∷ sides)
-putting_or whole before out next sides side first second putting is put = record {
-  bytes = ap (λ (l : List ℕ). l ++ (condition_bytes first.now ++ (condition_bytes second.now ++ flat_map bytes_now sides))) put ∙ split out 4 (condition_bytes first.now) (condition_bytes second.now) (flat_map bytes_now sides)
-      ∙ ap (λ (l : List ℕ). out ++ (l ++ flat_map bytes_now sides)) (sym (bytes-Or first.now second.now) ∙ ap condition_bytes (sym is)) ∙ putting.bytes;
-  room = let both = all_front (λ (text : List ℕ). length text ≤ 65535) (texts_of first.now) (texts_of second.now) (subst (AllByRecursion (λ (text : List ℕ). length text ≤ 65535)) (ap texts_of is ∙ texts-Or first.now second.now) putting.room.0) in
-      (both.0, (both.1, putting.room.1));
-  all = λ all. putting.all (subst AreComparisons (sym is) (or_of_sides first.now second.now all.0 all.1.0), all.1.1);
-}
-
-pub room_eq : (condition : TagCond) (key text : List ℕ) → condition ≡ Eq key text → HasRoom condition → (length key ≤ 65535) × (length text ≤ 65535)
-room_eq condition key text is room = let all = subst (AllByRecursion (λ (text : List ℕ). length text ≤ 65535)) (ap texts_of is ∙ texts-Eq key text) room in (all.0, all.1.0)
-
-pub room_ne : (condition : TagCond) (key text : List ℕ) → condition ≡ Ne key text → HasRoom condition → (length key ≤ 65535) × (length text ≤ 65535)
-room_ne condition key text is room = let all = subst (AllByRecursion (λ (text : List ℕ). length text ≤ 65535)) (ap texts_of is ∙ texts-Ne key text) room in (all.0, all.1.0)
-
--- the bytes that are to be put
-abbrev pub left_long : List (Bor TagCond) → ℕ
-left_long sides = length (flat_map bytes_now sides)
-
-pub less_leaf : (sides : List (Bor TagCond)) (side : Bor TagCond) → left_long sides < left_long (side ∷ sides)
-less_leaf sides side = omega (arith, length-append (bytes_now side) (flat_map bytes_now sides), has_bytes side.now)
-
-pub less_and : (sides : List (Bor TagCond)) (side first second : Bor TagCond) → side.now ≡ And first.now second.now → left_long (first ∷ second ∷ sides) < left_long (side ∷ sides)
-less_and sides side first second is =
-    omega (
-      arith,
-      length-append (bytes_now side) (flat_map bytes_now sides),
-      ap (λ (c : TagCond). length (condition_bytes c)) is,
-      ap length (bytes-And first.now second.now),
-      length-append (bytes_now first) (bytes_now second),
-      length-append (bytes_now first) (bytes_now second ++ flat_map bytes_now sides),
-      length-append (bytes_now second) (flat_map bytes_now sides),
+-- one part more is put
+pub put_more : (before out next : List ℕ) (items : Parts) (k : ℕ) (placed : Option Join × Part) → k < length items → placed ≡ get_or items k placed → out ≡ before ++ flat_map bytes_at (take k items)
+    → AllByRecursion IsPartAt (take k items) → next ≡ out ++ part_bytes placed.1 → IsPart placed.1
+    → (next ≡ before ++ flat_map bytes_at (take (k + 1) items)) × AllByRecursion IsPartAt (take (k + 1) items)
+put_more before out next items k placed within is bytes parts put one =
+    let more : take (k + 1) items ≡ take k items ++ placed ∷ [] = take_more items k placed within ∙ ap (λ (p : Option Join × Part). take k items ++ p ∷ []) (sym is) in (
+      put
+          ∙ ap (λ (b : List ℕ). b ++ part_bytes placed.1) bytes
+          ∙ append_assoc before (flat_map bytes_at (take k items)) (part_bytes placed.1)
+          ∙ ap (λ (b : List ℕ). before ++ b) (ap (λ (b : List ℕ). flat_map bytes_at (take k items) ++ b) (sym (append-nil (part_bytes placed.1))) ∙ sym (flat_both (take k items) (placed ∷ [])) ∙ ap (flat_map bytes_at) (sym more)),
+      subst (AllByRecursion IsPartAt) (sym more) (all_both IsPartAt (take k items) (placed ∷ []) parts (one, tt)),
     )
-
-pub less_or : (sides : List (Bor TagCond)) (side first second : Bor TagCond) → side.now ≡ Or first.now second.now → left_long (first ∷ second ∷ sides) < left_long (side ∷ sides)
-less_or sides side first second is =
-    omega (
-      arith,
-      length-append (bytes_now side) (flat_map bytes_now sides),
-      ap (λ (c : TagCond). length (condition_bytes c)) is,
-      ap length (bytes-Or first.now second.now),
-      length-append (bytes_now first) (bytes_now second),
-      length-append (bytes_now first) (bytes_now second ++ flat_map bytes_now sides),
-      length-append (bytes_now second) (flat_map bytes_now sides),
-    )
-
-pub last_first : (sides more : List (Bor TagCond)) (side : Bor TagCond) → more ≡ sides ++ side ∷ [] → reverse more ≡ side ∷ reverse sides
-last_first sides more side is = ap reverse is ∙ reverse-append sides (side ∷ [])
-
-pub putting_true : (whole : TagCond) (before out next : List ℕ) (sides : List (Bor TagCond)) (side : Bor TagCond) → Putting whole before out (side ∷ sides) → side.now ≡ True → next ≡ out ++ 0 ∷ [] → Putting whole before next sides
-putting_true whole before out next sides side putting is put =
-    putting_leaf whole before out next sides side True putting is (put ∙ ap (λ (l : List ℕ). out ++ l) (sym bytes-True)) (subst (AllByRecursion IsComparison) (sym comparisons-True) tt)
-
-pub putting_eq : (whole : TagCond) (before out next key text : List ℕ) (sides : List (Bor TagCond)) (side : Bor TagCond) → Putting whole before out (side ∷ sides) → side.now ≡ Eq key text → next ≡ out ++ 1 ∷ (text_bytes key ++ text_bytes text)
-    → IsComparison (key, text) → Putting whole before next sides
-putting_eq whole before out next key text sides side putting is put one =
-    putting_leaf whole before out next sides side (Eq key text) putting is (put ∙ ap (λ (l : List ℕ). out ++ l) (sym (bytes-Eq key text))) (subst (AllByRecursion IsComparison) (sym (comparisons-Eq key text)) (one, tt))
-
-pub putting_ne : (whole : TagCond) (before out next key text : List ℕ) (sides : List (Bor TagCond)) (side : Bor TagCond) → Putting whole before out (side ∷ sides) → side.now ≡ Ne key text → next ≡ out ++ 2 ∷ (text_bytes key ++ text_bytes text)
-    → IsComparison (key, text) → Putting whole before next sides
-putting_ne whole before out next key text sides side putting is put one =
-    putting_leaf whole before out next sides side (Ne key text) putting is (put ∙ ap (λ (l : List ℕ). out ++ l) (sym (bytes-Ne key text))) (subst (AllByRecursion IsComparison) (sym (comparisons-Ne key text)) (one, tt))
-
--- the sides with the innermost taken off
-pub popped : (whole : TagCond) (before out : List ℕ) (sides less : List (Bor TagCond)) (side : Bor TagCond) → Putting whole before out (reverse sides) → sides ≡ less ++ side ∷ [] → Putting whole before out (side ∷ reverse less)
-popped whole before out sides less side putting is = subst (Putting whole before out) (last_first less sides side is) putting
-
-pub less_popped : (sides less : List (Bor TagCond)) (side : Bor TagCond) → sides ≡ less ++ side ∷ [] → left_long (reverse less) < left_long (reverse sides)
-less_popped sides less side is = subst (λ (s : List (Bor TagCond)). left_long (reverse less) < left_long s) (sym (last_first less sides side is)) (less_leaf (reverse less) side)
-
--- two sides put behind the others
-two_last : (less one both : List (Bor TagCond)) (first second : Bor TagCond) → one ≡ less ++ second ∷ [] → both ≡ one ++ first ∷ [] → reverse both ≡ first ∷ second ∷ reverse less
-two_last less one both first second x y = last_first one both first y ∙ ap (λ (l : List (Bor TagCond)). first ∷ l) (last_first less one second x)
-
-pub putting_both_and : (whole : TagCond) (before out next : List ℕ) (sides less one both : List (Bor TagCond)) (side first second : Bor TagCond) → Putting whole before out (reverse sides) → sides ≡ less ++ side ∷ [] → side.now ≡ And first.now second.now → next ≡ out ++ 3 ∷ []
-    → one ≡ less ++ second ∷ [] → both ≡ one ++ first ∷ [] → Putting whole before next (reverse both)
-putting_both_and whole before out next sides less one both side first second putting off is put x y =
-    subst (Putting whole before next) (sym (two_last less one both first second x y)) (putting_and whole before out next (reverse less) side first second (popped whole before out sides less side putting off) is put)
-
-pub putting_both_or : (whole : TagCond) (before out next : List ℕ) (sides less one both : List (Bor TagCond)) (side first second : Bor TagCond) → Putting whole before out (reverse sides) → sides ≡ less ++ side ∷ [] → side.now ≡ Or first.now second.now → next ≡ out ++ 4 ∷ []
-    → one ≡ less ++ second ∷ [] → both ≡ one ++ first ∷ [] → Putting whole before next (reverse both)
-putting_both_or whole before out next sides less one both side first second putting off is put x y =
-    subst (Putting whole before next) (sym (two_last less one both first second x y)) (putting_or whole before out next (reverse less) side first second (popped whole before out sides less side putting off) is put)
-
-pub less_both_and : (sides less one both : List (Bor TagCond)) (side first second : Bor TagCond) → sides ≡ less ++ side ∷ [] → side.now ≡ And first.now second.now → one ≡ less ++ second ∷ [] → both ≡ one ++ first ∷ [] → left_long (reverse both) < left_long (reverse sides)
-less_both_and sides less one both side first second off is x y =
-    subst (λ (s : List (Bor TagCond)). left_long s < left_long (reverse sides)) (sym (two_last less one both first second x y))
-    (subst (λ (s : List (Bor TagCond)). left_long (first ∷ second ∷ reverse less) < left_long s) (sym (last_first less sides side off)) (less_and (reverse less) side first second is))
-
-pub less_both_or : (sides less one both : List (Bor TagCond)) (side first second : Bor TagCond) → sides ≡ less ++ side ∷ [] → side.now ≡ Or first.now second.now → one ≡ less ++ second ∷ [] → both ≡ one ++ first ∷ [] → left_long (reverse both) < left_long (reverse sides)
-less_both_or sides less one both side first second off is x y =
-    subst (λ (s : List (Bor TagCond)). left_long s < left_long (reverse sides)) (sym (two_last less one both first second x y))
-    (subst (λ (s : List (Bor TagCond)). left_long (first ∷ second ∷ reverse less) < left_long s) (sym (last_first less sides side off)) (less_or (reverse less) side first second is))
-
--- where nothing is left, all is put
-pub all_put : (whole : TagCond) (before out : List ℕ) (sides : List (Bor TagCond)) → Putting whole before out (reverse sides) → sides ≡ [] → (out ≡ before ++ condition_bytes whole) × AreComparisons whole
-all_put whole before out sides putting none =
-    let empty : Putting whole before out [] = subst (λ (s : List (Bor TagCond)). Putting whole before out (reverse s)) none putting in
-    (sym (append-nil out) ∙ empty.bytes, empty.all tt)
-
-pub room_of : (condition : TagCond) → All (λ (text : List ℕ). length text ≤ 65535) (texts_of condition) → HasRoom condition
-room_of condition all = recursion_from_All (λ (text : List ℕ). length text ≤ 65535) (texts_of condition) all

@@ -1,24 +1,36 @@
 -- What was read can be written: one group for each run takes no more bytes than another grouping.
-use Rattle.std.proofs.Common.{◌≡◌, ◌≢◌, ℕ, suc, zero, ◌+◌, ◌^◌, ◌≤◌, Bool, true, false, cond, List, [], ◌∷◌, ◌++◌, length, refl, sym, ap, subst, ◌∙◌, arith}
+use Rattle.std.specs.Prelude.{Bool}
+use Rattle.std.proofs.Common.{◌≡◌, ◌≢◌, ℕ, ◌+◌, ◌^◌, ◌≤◌, true, false, cond, List, [], ◌∷◌, ◌++◌, length, refl, sym, ap, subst, ◌∙◌, arith}
 use Rattle.std.specs.List.{flat_map, AllByRecursion}
 use Rattle.std.specs.Str.{bytes_eq}
 use Rattle.std.proofs.lemmas.List.{length-append}
-use Rattle.std.proofs.lemmas.List.Elements.{All-from_recursion}
-use Rattle.fixed_width.specs.Fields.{bytes_of_u32}
-use Rattle.fixed_width.proofs.Fronts.{length-u32}
+use Rattle.std.proofs.lemmas.List.Elements.{All-from_recursion, recursion_from_All}
+use Rattle.fixed_width.specs.Fields.{bytes_of_u16, bytes_of_u32, bytes_of_u64, bytes_of_i64}
+use Rattle.fixed_width.proofs.Fronts.{length-u16, length-u32, length-u64, length-i64}
 use Rattle.tsdb_types.specs.declared.point.Point.{Point}
-use Rattle.point_model.specs.Conditions.{texts_of}
-use Rattle.point_model.specs.declared.condition.TagCond.{TagCond}
+use Rattle.point_model.specs.Conditions.{Condition, True, Eq, Ne, And, Or, texts_of}
+use Rattle.point_model.specs.Acceptance.{IsKeyed}
+use Rattle.point_model.specs.Acceptance as acceptance
+use Rattle.point_model.specs.Deletions.{IsLoggable}
+use Rattle.point_model.specs.declared.deletion.Deletion.{Deletion}
+use Rattle.point_model.specs.Sizes.{condition_length, deletion_length, goes_on, head_length, point_length, runs_length, write_length}
+use Rattle.tsdb_types.specs.Keys.{mark}
+use Rattle.tsdb_types.specs.declared.value.Value.{Value}
+use Rattle.tsdb_types.specs.declared.value.Value.TheVariants as value_of
 use Rattle.point_model.specs.declared.entry.Entry.{Entry}
 use Rattle.point_model.specs.declared.entry.Entry.TheVariants.{Write, Delete}
 use Rattle.wal_store.specs.Conditions.{condition_bytes, AreComparisons, IsComparison}
-use Rattle.wal_store.specs.Form.{Group, text_bytes, group_bytes, groups_bytes, point_bytes, points_of, IsGroup, IsPointOf}
-use Rattle.wal_store.specs.Runs.{runs_of, with_first, HasShortTexts, IsWritable}
-use Rattle.wal_store.specs.Spelling.{Spells, SpellsBehind}
+use Rattle.wal_store.specs.Form.{Group, text_bytes, group_bytes, groups_bytes, point_bytes, points_of, value_bytes, IsGroup, IsPointOf}
+use Rattle.wal_store.specs.Runs.{entry_bytes, runs_of, with_first, HasShortTexts, IsWritable}
+use Rattle.wal_store.specs.Segments.{record_bytes}
+use Rattle.wal_store.specs.Spelling.{Spells, SpellsBehind, deletion_bytes}
 use Rattle.wal_store.specs.Taking.{AreOf}
 use Rattle.wal_store.proofs.GroupLemmas.{StartsWith, starts, joins}
-use Rattle.wal_store.proofs.ConditionLemmas.{by_cases, has_bytes, sides_of_and, sides_of_or, all_both, bytes-And, bytes-Or, comparisons-Eq, comparisons-Ne}
-use Rattle.wal_store.proofs.PutLemmas.{texts-True, texts-Eq, texts-Ne, texts-And, texts-Or}
+use Rattle.wal_store.proofs.ConditionLemmas.{sides_of_and, sides_of_or, all_both}
+use Rattle.wal_store.proofs.PutLemmas.{IsShort}
+
+text_long : (text : List ℕ) → length (text_bytes text) ≡ 2 + length text
+text_long text = omega (arith, length-append (bytes_of_u16 (length text)) text, length-u16 (length text))
 
 group_long : (group : Group) → length (group_bytes group) ≡ length (text_bytes group.series) + 4 + length (flat_map point_bytes group.points)
 group_long group =
@@ -86,26 +98,111 @@ short_all (group ∷ groups) all = all_both HasShortTexts group.points (points_o
 
 -- ---- the texts of a condition
 
-abbrev IsShort : List ℕ → Type 0
-IsShort text = length text ≤ 65535
-
-abbrev HasShort : ℕ → TagCond → Type 0
-HasShort n condition = length (condition_bytes condition) ≤ n → AreComparisons condition → AllByRecursion IsShort (texts_of condition)
-
-has_short : (n : ℕ) (condition : TagCond) → HasShort n condition
-has_short zero = λ condition short all. absurd (omega (arith, short, has_bytes condition))
-has_short (suc n) = by_cases (HasShort (suc n))
-    (λ short all. subst (AllByRecursion IsShort) (sym texts-True) tt)
-    (λ key text short all. let one = (subst (AllByRecursion IsComparison) (comparisons-Eq key text) all).0 in subst (AllByRecursion IsShort) (sym (texts-Eq key text)) (one.0.room.short, (one.1.short, tt)))
-    (λ key text short all. let one = (subst (AllByRecursion IsComparison) (comparisons-Ne key text) all).0 in subst (AllByRecursion IsShort) (sym (texts-Ne key text)) (one.0.room.short, (one.1.short, tt)))
-    (λ first second short all.
-    let long = ap length (bytes-And first second) ∙ ap (λ (k : ℕ). suc k) (length-append (condition_bytes first) (condition_bytes second)) in
+-- the texts of comparisons are short
+has_short : (condition : Condition) → AreComparisons condition → AllByRecursion IsShort (texts_of condition)
+has_short True all = tt
+has_short (Eq key text) all = (all.0.0.room.short, (all.0.1.short, tt))
+has_short (Ne key text) all = (all.0.0.room.short, (all.0.1.short, tt))
+has_short (And first second) all =
     let sides = sides_of_and first second all in
-    subst (AllByRecursion IsShort) (sym (texts-And first second)) (all_both IsShort (texts_of first) (texts_of second) (has_short n first (omega (arith, short, long)) sides.0) (has_short n second (omega (arith, short, long)) sides.1)))
-    (λ first second short all.
-    let long = ap length (bytes-Or first second) ∙ ap (λ (k : ℕ). suc k) (length-append (condition_bytes first) (condition_bytes second)) in
+    all_both IsShort (texts_of first) (texts_of second) (has_short first sides.0) (has_short second sides.1)
+has_short (Or first second) all =
     let sides = sides_of_or first second all in
-    subst (AllByRecursion IsShort) (sym (texts-Or first second)) (all_both IsShort (texts_of first) (texts_of second) (has_short n first (omega (arith, short, long)) sides.0) (has_short n second (omega (arith, short, long)) sides.1)))
+    all_both IsShort (texts_of first) (texts_of second) (has_short first sides.0) (has_short second sides.1)
+
+condition_long : (condition : Condition) → length (condition_bytes condition) ≡ condition_length condition
+condition_long True = refl
+condition_long (Eq key text) = omega (arith, length-append (text_bytes key) (text_bytes text), text_long key, text_long text)
+condition_long (Ne key text) = omega (arith, length-append (text_bytes key) (text_bytes text), text_long key, text_long text)
+condition_long (And first second) = omega (arith, length-append (condition_bytes first) (condition_bytes second), condition_long first, condition_long second)
+condition_long (Or first second) = omega (arith, length-append (condition_bytes first) (condition_bytes second), condition_long first, condition_long second)
+
+deletion_long : (deletion : Deletion) → 13 + length (deletion_bytes deletion) ≡ deletion_length deletion
+deletion_long deletion =
+    omega (
+      arith,
+      length-append (text_bytes deletion.measurement) (condition_bytes deletion.tags ++ (bytes_of_i64 deletion.from ++ bytes_of_i64 deletion.to)),
+      text_long deletion.measurement,
+      length-append (condition_bytes deletion.tags) (bytes_of_i64 deletion.from ++ bytes_of_i64 deletion.to),
+      condition_long deletion.tags,
+      length-append (bytes_of_i64 deletion.from) (bytes_of_i64 deletion.to),
+      length-i64 deletion.from,
+      length-i64 deletion.to,
+    )
+
+-- ---- the points of a write
+
+value_long : (value : Value) → length (value_bytes value) ≡ 9
+value_long (value_of.Int number) = omega (arith, length-i64 number)
+value_long (value_of.Uint number) = omega (arith, length-u64 number)
+value_long (value_of.Bool truth) = omega (arith, length-u64 (cond truth 1 0))
+
+point_long : (point : Point) → length (point_bytes point) ≡ point_length point
+point_long point =
+    omega (
+      arith,
+      length-append (text_bytes point.cell.field) (bytes_of_i64 point.cell.time ++ value_bytes point.value),
+      text_long point.cell.field,
+      length-append (bytes_of_i64 point.cell.time) (value_bytes point.value),
+      length-i64 point.cell.time,
+      value_long point.value,
+    )
+
+choice_long : (b : Bool) (point : Point) (group : Group) (groups : List Group)
+    → cost (cond b (record { series = group.series; points = point ∷ group.points } ∷ groups) (record { series = point.cell.series; points = point ∷ [] } ∷ group ∷ groups)) ≡ point_length point + cond b 0 (head_length point) + cost (group ∷ groups)
+choice_long true point group groups = omega (arith, cost_more (record { series = group.series; points = point ∷ group.points }) groups, points_more point group.points, cost_more group groups, point_long point)
+choice_long false point group groups = omega (arith, cost_more (record { series = point.cell.series; points = point ∷ [] }) (group ∷ groups), points_more point [], point_long point, text_long point.cell.series)
+
+-- the runs of points have the length that is counted
+pub runs_long : (points : List Point) → cost (runs_of points) ≡ runs_length points
+runs_long [] = refl
+runs_long (point ∷ []) = omega (arith, cost_more (record { series = point.cell.series; points = point ∷ [] }) [], points_more point [], point_long point, text_long point.cell.series)
+runs_long (point ∷ next ∷ points) =
+    let begun = starts next (runs_of points) in
+    let group : Group = record { series = next.cell.series; points = begun.points } in
+    ap (λ (gs : List Group). cost (with_first point gs)) begun.whole
+    ∙ choice_long (bytes_eq point.cell.series next.cell.series) point group begun.others
+    ∙ ap (λ (n : ℕ). point_length point + cond (bytes_eq point.cell.series next.cell.series) 0 (head_length point) + n) (ap cost (sym begun.whole) ∙ runs_long (next ∷ points))
+
+-- ---- the records
+
+pub write_long : (client : ℕ) (points : List Point) → 8 + length (entry_bytes (Write client points)) ≡ write_length points
+write_long client points =
+    omega (
+      arith,
+      length-append (bytes_of_u32 client) (1 ∷ groups_bytes (runs_of points)),
+      length-u32 client,
+      length-append (bytes_of_u32 (length (runs_of points))) (flat_map group_bytes (runs_of points)),
+      length-u32 (length (runs_of points)),
+      runs_long points,
+    )
+
+pub delete_long : (client : ℕ) (deletion : Deletion) → 8 + length (entry_bytes (Delete client deletion)) ≡ deletion_length deletion
+delete_long client deletion = omega (arith, length-append (bytes_of_u32 client) (2 ∷ deletion_bytes deletion), length-u32 client, deletion_long deletion)
+
+pub write_record_long : (number client : ℕ) (points : List Point) → length (record_bytes number (Write client points)) ≡ write_length points
+write_record_long number client points = omega (arith, length-append (bytes_of_u64 number) (entry_bytes (Write client points)), length-u64 number, write_long client points)
+
+pub delete_record_long : (number client : ℕ) (deletion : Deletion) → length (record_bytes number (Delete client deletion)) ≡ deletion_length deletion
+delete_record_long number client deletion = omega (arith, length-append (bytes_of_u64 number) (entry_bytes (Delete client deletion)), length-u64 number, delete_long client deletion)
+
+keyed_short : (points : List Point) → AllByRecursion IsKeyed points → AllByRecursion HasShortTexts points
+keyed_short [] keyed = tt
+keyed_short (point ∷ points) keyed =
+    let one = keyed.0 in
+    let long = length-append point.cell.series (mark ++ point.cell.field) in
+    let fits = one.fits in
+    (record { series = omega (arith, fits, long); field = omega (arith, fits, long) }, keyed_short points keyed.1)
+
+-- what may be handed to a store can be written
+pub batch_writable : (client : ℕ) (points : List Point) → acceptance.IsWritable points → IsWritable (Write client points)
+batch_writable client points may = record {
+  room = keyed_short points (recursion_from_All IsKeyed points may.keyed);
+  short = let fits = may.fits in omega (arith, fits, write_long client points);
+}
+
+pub deletion_writable : (client : ℕ) (deletion : Deletion) → IsLoggable deletion → IsWritable (Delete client deletion)
+deletion_writable client deletion may = record { room = may; short = let fits = may.fits in omega (arith, fits, delete_long client deletion) }
 
 -- ---- an entry
 
@@ -130,8 +227,16 @@ writable (Write client points) bytes short is = record {
 writable (Delete client deletion) bytes short is = record {
   room = record {
     measurement = is.3.is.measurement.room.short;
-    texts = All-from_recursion IsShort (texts_of deletion.tags) (has_short (length (condition_bytes deletion.tags)) deletion.tags (omega arith) is.3.is.tags.comparisons);
+    texts = All-from_recursion IsShort (texts_of deletion.tags) (has_short deletion.tags is.3.is.tags.comparisons);
     nested = is.3.is.tags.nested;
+    fits = omega (
+      arith,
+      short,
+      ap length (is.1 ∙ ap (λ (l : List ℕ). bytes_of_u32 client ++ (2 ∷ l)) is.3.spelling),
+      length-append (bytes_of_u32 client) (2 ∷ deletion_bytes deletion),
+      length-u32 client,
+      deletion_long deletion,
+    );
   };
   short = omega (arith, short, ap length (is.1 ∙ ap (λ (l : List ℕ). bytes_of_u32 client ++ (2 ∷ l)) is.3.spelling));
 }

@@ -223,7 +223,7 @@ at_end [] file (suc n) is = absurd (omega (arith, is))
 at_end (x ∷ before) file zero is = absurd (omega (arith, is))
 at_end (x ∷ before) file (suc n) is = at_end before file n (omega (arith, is))
 
-pub are_segments : (tells : Type 0) (floor : ℕ) (segments before newest : List ℕ) (file greatest : ℕ) (log : Log) (entries entries' : List Entry) (last : Option ℕ) (files files' : Directory) (mid mid' new : Crashes) → segments ≡ before ++ file ∷ []
+pub are_segments : (tells : Type 0) (floor : ℕ) (segments before newest : List ℕ) (file greatest : ℕ) (log : Log) (entries entries' : List Entry) (last : ℕ) (files files' : Directory) (mid mid' new : Crashes) → segments ≡ before ++ file ∷ []
     → AreRead tells floor before newest entries files mid → Tells tells floor file log entries entries' greatest files' mid' new
     → AreSegments (record { files = segments; newest = newest; newest_here = greatest; log = log; last = last; has_room = false })
 are_segments tells floor segments before newest file greatest log entries entries' last files files' mid mid' new parts r told =
@@ -235,6 +235,6 @@ are_segments tells floor segments before newest file greatest log entries entrie
     }
 
 -- no room was made yet
-pub is_kept : (for_files for_newest : ℕ) (files newest : List ℕ) (newest_here : ℕ) (log : Log) (last : Option ℕ) → AreSegments (record { files = files; newest = newest; newest_here = newest_here; log = log; last = last; has_room = false })
+pub is_kept : (for_files for_newest : ℕ) (files newest : List ℕ) (newest_here : ℕ) (log : Log) (last : ℕ) → AreSegments (record { files = files; newest = newest; newest_here = newest_here; log = log; last = last; has_room = false })
     → IsKept for_files for_newest (record { files = files; newest = newest; newest_here = newest_here; log = log; last = last; has_room = false })
 is_kept for_files for_newest files newest newest_here log last sound = record { sound = sound; for_files = λ room. absurd (false≢true room); for_newest = λ room. absurd (false≢true room) }

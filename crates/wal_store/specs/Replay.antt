@@ -1,5 +1,5 @@
 -- What are the segments of a log read as, and what is wrong with others?
-use Rattle.std.specs.Prelude.{◌≡◌, ◌≢◌, ◌⊎◌, ℕ, ◌+◌, ◌<◌, ◌≤◌, nat_lt, max, List, [], ◌∷◌, ◌++◌, length, filter, map, Option, None, Some, false}
+use Rattle.std.specs.Prelude.{◌≡◌, ◌≢◌, ◌⊎◌, ℕ, ◌+◌, ◌<◌, ◌≤◌, nat_lt, max, List, [], ◌∷◌, ◌++◌, length, filter, map, false}
 use Rattle.std.specs.List.{flat_map, range_with_len, AllByRecursion}
 use Rattle.shard_disk.specs.Crash.{Crashes, IsDurable}
 use Rattle.shard_disk.specs.Directory.{Directory, HasFile}
@@ -41,10 +41,9 @@ abbrev pub newest_of : List Logged → ℕ
 newest_of [] = 0
 newest_of (logged ∷ others) = max logged.number (newest_of others)
 
--- the number of the last of these entries, which are counted from the floor on
-abbrev pub last_past : ℕ → List Entry → Option ℕ
-last_past floor [] = None
-last_past floor (entry ∷ entries) = Some (floor + length (entry ∷ entries))
+-- the number of the last of these entries, which are counted from the floor on, or the floor where there is none
+abbrev pub last_past : ℕ → List Entry → ℕ
+last_past floor entries = floor + length entries
 
 -- the entries are counted, and those past the floor are these
 pub record Holds (floor : ℕ) (logged : List Logged) (entries : List Entry) : Type 0 where

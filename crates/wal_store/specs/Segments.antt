@@ -1,5 +1,5 @@
 -- What a log in segments is, and what its calls make of it.
-use Rattle.std.specs.Prelude.{◌≡◌, ℕ, ◌+◌, ◌≤◌, nat_le, Bool, true, false, List, [], ◌∷◌, ◌++◌, length, slice_get, take_while, drop, Option, Some, None, IfSome, if◌then◌else◌}
+use Rattle.std.specs.Prelude.{◌≡◌, ℕ, ◌+◌, ◌≤◌, nat_le, Bool, true, false, List, [], ◌∷◌, ◌++◌, length, slice_get, take_while, drop, Some, if◌then◌else◌}
 use Rattle.fixed_width.specs.Fields.{bytes_of_u64}
 use Rattle.point_model.specs.declared.entry.Entry.{Entry}
 use Rattle.gate_log.specs.declared.log.Log.{Log}
@@ -7,13 +7,14 @@ use Rattle.wal_store.specs.Runs.{entry_bytes}
 use Rattle.wal_store.specs.Spelling.{Spells}
 
 -- The files of the segments, the oldest first; of each but the last the greatest number of an entry in it, or 0, and that of the
--- last; the log of the last; the number of the last entry that was read or added; whether there is room for a segment more.
+-- last; the log of the last; the number of the last entry, or the floor where there is none past it; whether there is room for a
+-- segment more.
 pub record Segments : Type 0 where
   pub files : List ℕ
   pub newest : List ℕ
   pub newest_here : ℕ
   pub log : Log
-  pub last : Option ℕ
+  pub last : ℕ
   pub has_room : Bool
 
 -- each segment but the last has its greatest number, and the log is that of the last
@@ -27,9 +28,9 @@ pub record IsKept (files newest : ℕ) (wal : Segments) : Type 0 where
   pub for_files : wal.has_room ≡ true → length wal.files + 1 ≤ files
   pub for_newest : wal.has_room ≡ true → length wal.newest + 1 ≤ newest
 
--- one segment without an entry
-abbrev pub one_segment : Log → Segments
-one_segment log = record { files = log.file ∷ []; newest = []; newest_here = 0; log = log; last = None; has_room = false }
+-- one segment without an entry, which goes on from this number
+abbrev pub one_segment : Log → ℕ → Segments
+one_segment log last = record { files = log.file ∷ []; newest = []; newest_here = 0; log = log; last = last; has_room = false }
 
 -- a further segment, without an entry
 abbrev pub with_segment : Segments → Log → Segments
@@ -47,7 +48,7 @@ greater a b = if nat_le a b then b else a
 
 -- an entry of this number is the last, in the last segment
 abbrev pub with_number : Segments → Log → ℕ → Segments
-with_number wal log number = record wal { newest_here = greater wal.newest_here number; log = log; last = Some number }
+with_number wal log number = record wal { newest_here = greater wal.newest_here number; log = log; last = number }
 
 -- how many segments at the front hold no entry past this number, the last aside
 abbrev pub settled_segments : ℕ → Segments → ℕ
@@ -61,10 +62,15 @@ without_segments count wal = record wal { files = drop count wal.files; newest =
 abbrev pub last_number : ℕ
 last_number = 9223372036854775807
 
--- a number of an entry that may come next: one more than that of the last entry, where there is one
+-- a number of an entry that may come next: one more than that of the last entry, or than the floor
 pub record MayFollow (wal : Segments) (number : ℕ) : Type 0 where
   pub most : number ≤ last_number
-  pub next : IfSome wal.last (λ last. number ≡ last + 1)
+  pub next : number ≡ wal.last + 1
+
+-- the number of an entry, and the body of its record
+pub record Recorded : Type 0 where
+  pub number : ℕ
+  pub body : List ℕ
 
 -- a record: the number in eight bytes, and the entry
 abbrev pub record_bytes : ℕ → Entry → List ℕ
@@ -76,3 +82,7 @@ pub record SpellsRecord (number : ℕ) (entry : Entry) (bytes : List ℕ) : Type
   pub body : List ℕ
   pub whole : bytes ≡ bytes_of_u64 number ++ body
   pub spells : Spells entry body
+
+-- the record of an entry with this number
+abbrev pub record_of : ℕ → Entry → Recorded
+record_of number entry = record { number = number; body = record_bytes number entry }

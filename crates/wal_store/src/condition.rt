@@ -1,132 +1,70 @@
-// A condition on tags in prefix form, put and taken by loops: a condition may be nested so deep that calls for its sides
-// would take too much stack.
-ghost use Rattle.std.specs.Prelude.{◌≡◌, ◌≢◌, ◌++◌, ◌∷◌, ◌+◌, ◌<◌, ◌≤◌, ℕ, List, length, reverse, All, IfOk, IfSome, IfNone, OnOk};
-ghost use Rattle.point_model.specs.Conditions.{nesting, texts_of};
-ghost use Rattle.point_model.specs.declared.condition.TagCond.{TagCond};
+// A condition on tags in prefix form, put and taken part by part.
+ghost use Rattle.std.specs.Prelude.{◌≡◌, ◌≢◌, ◌++◌, ◌∷◌, [], ◌<◌, ◌≤◌, ℕ, List, length, All, IfOk, IfSome, IfNone, OnOk};
+ghost use Rattle.point_model.specs.Conditions.{Condition, texts_of};
 ghost use Rattle.wal_store.specs.Form.{text_bytes};
-ghost use Rattle.wal_store.specs.Conditions.{condition_bytes, AreComparisons, IsComparison, IsCondition};
+ghost use Rattle.wal_store.specs.Conditions.{condition_bytes, part_bytes, AreComparisons, HasShortPart, IsComparison, IsCondition, IsPart};
 ghost use Rattle.wal_store.specs.Spelling.{most_nested};
-ghost use Rattle.wal_store.specs.Stack as spec;
-ghost use Rattle.wal_store.specs.Stack.{AreSides, Awaits, Closes, IsNode};
+ghost use Rattle.wal_store.specs.Stack.{IsNode};
 
 use crate::point::take_byte;
 use crate::text::{put_text, take_name, take_text};
-use point_model::{TagCond, TagText};
+use point_model::{Join, Part, ReadCond, TagCond, TagCondReader, TagTest, TagText};
 use std::alloc::{AllocError, Global};
 use tsdb_types::Name;
 
 // How many joins may be open at one place.
 const MOST_NESTED: usize = 65_536;
 
-/// What joins two conditions.
-#[derive(Clone, Copy, Debug, PartialEq, Eq)]
-pub enum Join {
-    And,
-    Or,
-}
-
-/// A side of a join at which a condition is read.
-#[derive(Debug, Drop)]
-pub enum Side {
-    First(Join),
-    /// The other side was read.
-    Second(Join, TagCond),
-}
-
-/// What stands first in the bytes of a condition.
-#[derive(Debug, Drop)]
-pub enum Node {
-    Leaf(TagCond),
-    Join(Join),
-}
-
 /// The condition at the front of the bytes, and the bytes behind it.
 pub fn take_condition(alloc: Global, bytes: &[u8]) -> Result<Option<(TagCond, &[u8])>, AllocError>
     ensures found { IfOk result (λ taken. IfSome taken (λ found. bytes.now ≡ condition_bytes found.0 ++ found.1.now)) }
     ensures condition { IfOk result (λ taken. IfSome taken (λ found. IsCondition most_nested found.0)) }
-    ensures none { IfOk result (λ taken. IfNone taken ((condition : TagCond) (rest : List ℕ) → IsCondition most_nested condition
+    ensures none { IfOk result (λ taken. IfNone taken ((condition : Condition) (rest : List ℕ) → IsCondition most_nested condition
         → bytes.now ≢ condition_bytes condition ++ rest)) }
 {
-    let mut sides = Vec::new(alloc);
+    let mut reader = TagCondReader::new(alloc);
     let mut rest = bytes;
-    'sides: loop {
-        let Some((node, behind)) = take_node(alloc, rest)? else {
+    'parts: loop {
+        let Some((part, behind)) = take_part(alloc, rest)? else {
             return Ok(None);
         };
         rest = behind;
-        match node {
-            Node::Join(join) => {
-                if sides.len() >= MOST_NESTED {
+        match part {
+            Part::Join(join) => {
+                if reader.nesting() >= MOST_NESTED {
                     return Ok(None);
                 }
-                sides.push(Side::First(join))?;
+                reader = reader.join(join)?;
             }
-            Node::Leaf(part) => {
-                if let Some(whole) = close(alloc, &mut sides, part)? {
-                    return Ok(Some((whole, rest)));
-                }
-            }
+            Part::Test(test) => match reader.test(test)? {
+                ReadCond::Whole(whole) => return Ok(Some((whole, rest))),
+                ReadCond::Open(open) => reader = open,
+            },
         }
-    }
-}
-
-/// Puts a part at the innermost side, and what that makes whole at the sides around it, up to a side whose other is still to
-/// be read. Answers the whole condition where there is none.
-fn close(alloc: Global, sides: &mut Vec<Side>, part: TagCond) -> Result<Option<TagCond>, AllocError>
-    requires sides { AreSides most_nested (reverse sides.old.items) }
-    requires part { AreComparisons part }
-    requires nested { nesting part + length sides.old.items ≤ most_nested }
-    ensures whole { IfOk result (λ closed. IfSome closed (λ whole. Closes most_nested (reverse sides.old.items) part whole)) }
-    ensures next { IfOk result (λ closed. IfNone closed (Awaits most_nested (reverse sides.old.items) part (reverse sides.new.items))) }
-{
-    let mut part = part;
-    while let Some(side) = sides.pop() {
-        match side {
-            Side::First(join) => {
-                sides.push(Side::Second(join, part))?;
-                return Ok(None);
-            }
-            Side::Second(join, first) => part = join_of(alloc, join, first, part)?,
-        }
-    }
-    Ok(Some(part))
-}
-
-fn join_of(
-    alloc: Global,
-    join: Join,
-    first: TagCond,
-    second: TagCond,
-) -> Result<TagCond, AllocError>
-    ensures { IfOk result (λ whole. whole ≡ spec.join_of join first second) }
-{
-    match join {
-        Join::And => TagCond::and(alloc, first, second),
-        Join::Or => TagCond::or(alloc, first, second),
     }
 }
 
 /// What stands at the front of the bytes of a condition, and the bytes behind it.
-fn take_node(alloc: Global, bytes: &[u8]) -> Result<Option<(Node, &[u8])>, AllocError>
+fn take_part(alloc: Global, bytes: &[u8]) -> Result<Option<(Part, &[u8])>, AllocError>
     ensures found { IfOk result (λ taken. IfSome taken (λ found. IsNode found.0 bytes.now found.1.now)) }
     ensures shorter { IfOk result (λ taken. IfSome taken (λ found. length found.1.now < length bytes.now)) }
-    ensures none { IfOk result (λ taken. IfNone taken ((condition : TagCond) (rest : List ℕ) → AreComparisons condition → bytes.now ≢ condition_bytes condition ++ rest)) }
+    ensures none { IfOk result (λ taken. IfNone taken ((condition : Condition) (rest : List ℕ) → AreComparisons condition → bytes.now ≢ condition_bytes condition ++ rest)) }
 {
     let Some((kind, behind)) = take_byte(bytes) else {
         return Ok(None);
     };
     match kind {
-        0 => Ok(Some((Node::Leaf(TagCond::True), behind))),
+        0 => Ok(Some((Part::Test(TagTest::True), behind))),
         1 => match take_comparison(alloc, behind)? {
-            Some((key, text, rest)) => Ok(Some((Node::Leaf(TagCond::Eq(key, text)), rest))),
+            Some((key, text, rest)) => Ok(Some((Part::Test(TagTest::Eq(key, text)), rest))),
             None => Ok(None),
         },
         2 => match take_comparison(alloc, behind)? {
-            Some((key, text, rest)) => Ok(Some((Node::Leaf(TagCond::Ne(key, text)), rest))),
+            Some((key, text, rest)) => Ok(Some((Part::Test(TagTest::Ne(key, text)), rest))),
             None => Ok(None),
         },
-        3 => Ok(Some((Node::Join(Join::And), behind))),
-        4 => Ok(Some((Node::Join(Join::Or), behind))),
+        3 => Ok(Some((Part::Join(Join::And), behind))),
+        4 => Ok(Some((Part::Join(Join::Or), behind))),
         _ => Ok(None),
     }
 }
@@ -151,36 +89,30 @@ fn take_comparison(
 }
 
 /// Puts a condition.
-pub fn put_condition(
-    alloc: Global,
-    out: &mut Vec<u8>,
-    condition: &TagCond,
-) -> Result<(), AllocError>
+pub fn put_condition(out: &mut Vec<u8>, condition: &TagCond) -> Result<(), AllocError>
     requires { All (λ text. length text ≤ 65535) (texts_of condition.now) }
     ensures ok { OnOk result (out.new.items ≡ out.old.items ++ condition_bytes condition.now) }
     ensures comparisons { OnOk result (AreComparisons condition.now) }
 {
-    // The sides that are still to be put, the next one last.
-    let mut sides = Vec::new(alloc);
-    sides.push(condition)?;
-    while let Some(side) = sides.pop() {
-        match side {
-            TagCond::True => out.push(0)?,
-            TagCond::Eq(key, text) => put_comparison(out, 1, key, text)?,
-            TagCond::Ne(key, text) => put_comparison(out, 2, key, text)?,
-            TagCond::And(first, second) => {
-                out.push(3)?;
-                sides.push(second.get())?;
-                sides.push(first.get())?;
-            }
-            TagCond::Or(first, second) => {
-                out.push(4)?;
-                sides.push(second.get())?;
-                sides.push(first.get())?;
-            }
-        }
+    for placed in condition.parts() {
+        put_part(out, &placed.1)?;
     }
     Ok(())
+}
+
+/// Puts a part of a condition, without the sides of a join.
+fn put_part(out: &mut Vec<u8>, part: &Part) -> Result<(), AllocError>
+    requires { HasShortPart part.now }
+    ensures ok { OnOk result (out.new.items ≡ out.old.items ++ part_bytes part.now) }
+    ensures part { OnOk result (IsPart part.now) }
+{
+    match part {
+        Part::Test(TagTest::True) => put_byte(out, 0),
+        Part::Test(TagTest::Eq(key, text)) => put_comparison(out, 1, key, text),
+        Part::Test(TagTest::Ne(key, text)) => put_comparison(out, 2, key, text),
+        Part::Join(Join::And) => put_byte(out, 3),
+        Part::Join(Join::Or) => put_byte(out, 4),
+    }
 }
 
 fn put_comparison(out: &mut Vec<u8>, kind: u8, key: &Name, text: &TagText) -> Result<(), AllocError>
@@ -192,4 +124,11 @@ fn put_comparison(out: &mut Vec<u8>, kind: u8, key: &Name, text: &TagText) -> Re
     out.push(kind)?;
     put_text(out, key.as_str())?;
     put_text(out, text.as_str())
+}
+
+fn put_byte(out: &mut Vec<u8>, byte: u8) -> Result<(), AllocError>
+    ensures { OnOk result (out.new.items ≡ out.old.items ++ byte ∷ []) }
+{
+    out.push(byte)?;
+    Ok(())
 }

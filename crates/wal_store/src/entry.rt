@@ -5,18 +5,19 @@ ghost use Rattle.tsdb_types.specs.Moments.{IsMoment};
 ghost use Rattle.point_model.specs.Deletions.{IsLoggable};
 ghost use Rattle.point_model.specs.declared.deletion.Deletion.{Deletion};
 ghost use Rattle.point_model.specs.declared.entry.Entry.{Entry};
+ghost use Rattle.point_model.specs.declared.entry.Entry.TheVariants.{Write, Delete};
 ghost use Rattle.wal_store.specs.Runs.{IsWritable, entry_bytes};
 ghost use Rattle.wal_store.specs.Spelling.{Spells, SpellsDeletion, IsDeletion, deletion_bytes};
 
 use crate::EntryFault;
 use crate::condition::{put_condition, take_condition};
-use crate::group::{put_groups, take_groups};
+use crate::group::{first_run, put_groups, take_groups};
 use crate::point::take_byte;
 use crate::text::{put_text, take_name};
 use fixed_width::{put_i64, put_u32, take_i64, take_u32};
 use point_model::{Deletion, Entry};
 use std::alloc::{AllocError, Global};
-use tsdb_types::{Point, Time};
+use tsdb_types::{Batch, Point, Time};
 
 // The bytes that say what an entry is.
 const WRITE: u8 = 1;
@@ -33,57 +34,83 @@ pub fn write_entry(alloc: Global, entry: &Entry) -> Result<Vec<u8>, AllocError>
     ensures spells { IfOk result (λ bytes. Spells entry.now bytes.items) }
 {
     let mut out = Vec::with_capacity(alloc, room_for(entry))?;
-    put_entry(alloc, &mut out, entry)?;
+    put_entry(&mut out, entry)?;
     Ok(out)
 }
 
 /// Puts an entry behind what is there.
-pub fn put_entry(alloc: Global, out: &mut Vec<u8>, entry: &Entry) -> Result<(), AllocError>
+fn put_entry(out: &mut Vec<u8>, entry: &Entry) -> Result<(), AllocError>
     requires { IsWritable entry.now }
     ensures bytes { OnOk result (out.new.items ≡ out.old.items ++ entry_bytes entry.now) }
     ensures spells { OnOk result (Spells entry.now (entry_bytes entry.now)) }
 {
     match entry {
-        Entry::Write { client, points } => {
-            put_u32(out, *client)?;
-            out.push(WRITE)?;
-            put_groups(out, points.points())
-        }
-        Entry::Delete { client, deletion } => {
-            put_u32(out, *client)?;
-            out.push(DELETE)?;
-            put_deletion(alloc, out, deletion)
-        }
+        Entry::Write { client, points } => put_write(out, *client, points),
+        Entry::Delete { client, deletion } => put_delete(out, *client, deletion),
     }
 }
 
-/// Room for the bytes of an entry, so that they are put without further memory; those of a condition take their own.
-pub fn room_for(entry: &Entry) -> usize {
+/// Puts a write behind what is there.
+pub fn put_write(out: &mut Vec<u8>, client: u32, points: &Batch) -> Result<(), AllocError>
+    requires { IsWritable (Write client points.now) }
+    ensures bytes { OnOk result (out.new.items ≡ out.old.items ++ entry_bytes (Write client points.now)) }
+    ensures spells { OnOk result (Spells (Write client points.now) (entry_bytes (Write client points.now))) }
+{
+    put_u32(out, client)?;
+    out.push(WRITE)?;
+    put_groups(out, points.points())
+}
+
+/// Puts a deletion behind what is there.
+pub fn put_delete(out: &mut Vec<u8>, client: u32, deletion: &Deletion) -> Result<(), AllocError>
+    requires { IsWritable (Delete client deletion.now) }
+    ensures bytes { OnOk result (out.new.items ≡ out.old.items ++ entry_bytes (Delete client deletion.now)) }
+    ensures spells { OnOk result (Spells (Delete client deletion.now) (entry_bytes (Delete client deletion.now))) }
+{
+    put_u32(out, client)?;
+    out.push(DELETE)?;
+    put_deletion(out, deletion)
+}
+
+/// Room for the bytes of an entry, so that those of a write are put without further memory.
+fn room_for(entry: &Entry) -> usize {
     match entry {
         Entry::Write { points, .. } => room_for_points(points.points()),
         Entry::Delete { .. } => 64,
     }
 }
 
-// As if each point had a group of its own.
-fn room_for_points(points: &[Point]) -> usize {
+/// Room for the bytes of a write, run by run.
+pub fn room_for_points(points: &[Point]) -> usize {
     let mut room = 9usize;
-    for point in points {
+    let mut rest = points;
+    while let Some(run) = first_run(rest) {
         room = room
-            .saturating_add(point.cell.series.text().len())
-            .saturating_add(point.cell.field.as_str().len())
-            .saturating_add(25);
+            .saturating_add(run.series.text().len())
+            .saturating_add(6)
+            .saturating_add(room_for_run(run.points));
+        rest = run.behind;
     }
     room
 }
 
-fn put_deletion(alloc: Global, out: &mut Vec<u8>, deletion: &Deletion) -> Result<(), AllocError>
+fn room_for_run(points: &[Point]) -> usize {
+    let mut room = 0usize;
+    for point in points {
+        room = room
+            .saturating_add(point.cell.field.as_str().len())
+            .saturating_add(19);
+    }
+    room
+}
+
+fn put_deletion(out: &mut Vec<u8>, deletion: &Deletion) -> Result<(), AllocError>
     requires { IsLoggable deletion.now }
     ensures bytes { OnOk result (out.new.items ≡ out.old.items ++ deletion_bytes deletion.now) }
     ensures deletion { OnOk result (IsDeletion deletion.now) }
 {
     put_text(out, deletion.measurement.as_str())?;
-    put_condition(alloc, out, &deletion.tags)?;
+    put_condition(out, &deletion.tags)?;
     put_i64(out, deletion.from.get())?;
     put_i64(out, deletion.to.get())
 }

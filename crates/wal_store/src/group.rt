@@ -64,13 +64,13 @@ fn put_group(out: &mut Vec<u8>, series: &SeriesKey, points: &[Point]) -> Result<
 
 /// The first run of points of one series.
 #[derive(Clone, Copy)]
-struct Run<'a> {
-    series: &'a SeriesKey,
-    points: &'a [Point],
-    behind: &'a [Point],
+pub struct Run<'a> {
+    pub series: &'a SeriesKey,
+    pub points: &'a [Point],
+    pub behind: &'a [Point],
 }
 
-fn first_run(points: &[Point]) -> Option<Run<'_>>
+pub fn first_run(points: &[Point]) -> Option<Run<'_>>
     ensures run { IfSome result (λ run. IsRunFirst run.series.now run.points.now run.behind.now points.now) }
     ensures none { IfNone result (points.now ≡ []) }
 {

@@ -5,6 +5,7 @@
 mod condition;
 mod entry;
 mod fault;
+mod framed;
 mod group;
 mod laws;
 mod point;
@@ -16,8 +17,6 @@ mod wal;
 
 pub use entry::{one_entry, read_entry, write_entry};
 pub use fault::EntryFault;
-pub use laws::one_segment_read;
+pub use framed::WalRecord;
+pub use laws::{one_segment_read, records_fit};
 pub use wal::Wal;
-
-#[cfg(test)]
-mod tests;

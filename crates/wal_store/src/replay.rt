@@ -78,13 +78,10 @@ fn copy_of(alloc: Global, segments: &[u32]) -> Result<Vec<u32>, AllocError>
     Ok(files)
 }
 
-/// The number of the last of the entries past the floor.
-fn last_of(floor: u64, entries: &[Entry]) -> Option<u64>
+/// The number of the last of the entries past the floor, or the floor.
+fn last_of(floor: u64, entries: &[Entry]) -> u64
     requires { floor + length entries.now ≤ last_number }
     ensures { result ≡ last_past floor entries.now }
 {
-    if entries.is_empty() {
-        return None;
-    }
-    Some(floor + entries.len() as u64)
+    floor + entries.len() as u64
 }

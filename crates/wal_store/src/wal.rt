@@ -1,18 +1,17 @@
-ghost use Rattle.std.specs.Prelude.{◌≡◌, ◌≢◌, ◌↔◌, ◌+◌, ◌≤◌, ◌<◌, ◌++◌, ◌∷◌, ◌^◌, [], true, ℕ, List, length, drop, take_while, nat_le, Option, IsTrue, IsOk, IfOk, IfErr, IsErrOf, OnOk, OnErr, vec_len, vec_capacity};
-ghost use Rattle.shard_disk.specs.Crash.{Leaves};
-ghost use Rattle.shard_disk.specs.Directory.{ChangesAt, Ends};
-ghost use Rattle.shard_disk.specs.Health.{HasCause, Ages, Failed};
-ghost use Rattle.gate_log.specs.Records.{WithAtMost};
+ghost use Rattle.std.specs.Prelude.{◌≡◌, ◌≢◌, ◌↔◌, ◌≤◌, ◌<◌, ◌++◌, ◌∷◌, ◌^◌, [], true, length, drop, take_while, nat_le, IsTrue, IfOk, IfErr, OnOk, OnErr, vec_len, vec_capacity};
+ghost use Rattle.point_model.specs.declared.entry.Entry.TheVariants.{Write, Delete};
 ghost use Rattle.wal_store.specs.Runs.{IsWritable};
-ghost use Rattle.wal_store.specs.Segments.{SpellsRecord, last_number, record_bytes};
+ghost use Rattle.wal_store.specs.Segments.{SpellsRecord, last_number, record_of};
 
-use crate::entry::{put_entry, room_for};
+use crate::WalRecord;
+use crate::entry::{put_delete, put_write, room_for_points};
 use fixed_width::put_u64;
-use gate_log::Log;
-use point_model::Entry;
+use gate_log::{Frame, Log};
+use point_model::Deletion;
 use shard_disk::{Disk, Trouble};
 use std::alloc::{AllocError, Global};
 use std::marker::Model;
+use tsdb_types::Batch;
 
 /// The log of accepted entries: segments, of which the last takes further entries. A contract sees the `Segments` of
 /// `specs/Segments.antt`.
@@ -23,7 +22,7 @@ pub struct Wal {
     pub(crate) newest: Vec<u64>,
     pub(crate) newest_here: u64,
     pub(crate) log: Log,
-    pub(crate) last: Option<u64>,
+    pub(crate) last: u64,
     pub(crate) has_room: bool,
 }
 
@@ -40,15 +39,16 @@ impl Model for Wal {
 }
 
 impl Wal {
-    ghost use Rattle.gate_log.specs.Calls.Append.{Adds, AddsNone};
-    ghost use Rattle.gate_log.specs.Calls.Settle.{KeepsFile, Remains, Settles};
-    ghost use Rattle.gate_log.specs.Log.{HasGate, IsEmptyLog, IsInDoubt, IsPlaced, IsShutLog, Stands, doubtful, file_of};
+    ghost use Rattle.gate_log.specs.Calls.Append.{Appends};
+    ghost use Rattle.gate_log.specs.Calls.Settle.{Settling};
+    ghost use Rattle.gate_log.specs.Log.{IsEmptyLog, IsInDoubt, IsPlaced};
     ghost use Rattle.wal_store.specs.Segments.{MayFollow, one_segment, settled_segments, with_number, with_segment, without_segments};
 
-    /// A log of one segment, which has no record. It keeps the allocator. Where there is no memory the segment comes back.
-    pub fn new(alloc: Global, log: Log) -> Result<Wal, (Log, AllocError)>
+    /// A log of one segment, which has no record; its first entry has the number after this one. It keeps the allocator. Where there
+    /// is no memory the segment comes back.
+    pub fn new(alloc: Global, log: Log, last: u64) -> Result<Wal, (Log, AllocError)>
         requires { IsEmptyLog log }
-        ensures ok { IfOk result (λ wal. wal ≡ one_segment log) }
+        ensures ok { IfOk result (λ wal. wal ≡ one_segment log last) }
         ensures refused { IfErr result (λ back. back.0 ≡ log) }
     {
         match one_file(alloc, log.file()) {
@@ -58,48 +58,63 @@ impl Wal {
                 newest: Vec::new(alloc),
                 newest_here: 0,
                 log,
-                last: None,
+                last,
                 has_room: false,
             }),
             Err(error) => Err((log, error)),
         }
     }
 
-    /// Adds an entry to the last segment, durably. Its number is one more than that of the last entry. After a fault the entry
-    /// is there or not, as `in_doubt` tells: where it answers false the entry isn't there.
-    pub fn append<D: Disk>(
-        &mut self,
-        disk: &mut D,
+    /// The record of a write of this number: it takes all the memory that adding it needs, and copies no point.
+    pub fn write_record(
+        &self,
         number: u64,
-        entry: &Entry,
-    ) -> Result<(), Trouble>
-        requires writable { IsWritable entry.now }
-        requires number { MayFollow self.old number }
-        requires placed { IsTrue D.tells → IsPlaced (D.files disk.old) self.old.log }
-
-        ensures ok { OnOk result (Adds (IsTrue D.tells) (record_bytes number entry.now) self.old.log self.new.log
-            (D.files disk.old) (D.files disk.new) (D.crashes disk.old) (D.crashes disk.new)) }
-        ensures added { OnOk result (self.new ≡ with_number self.old self.new.log number) }
-        ensures spells { OnOk result (SpellsRecord number entry.now (record_bytes number entry.now)) }
-        ensures refused { OnErr result (AddsNone (IsTrue D.tells) (IsErrOf result Trouble.Fault) (record_bytes number entry.now) self.old.log self.new.log
-            (D.files disk.old) (D.files disk.new) (D.crashes disk.old) (D.crashes disk.new)) }
-        ensures same { OnErr result (self.new ≡ record self.old { log = self.new.log }) }
-
-        // A crash at any moment of the call leaves the entries, with at most this one or the one in doubt.
-        ensures crash { IsTrue D.tells → HasGate self.old.log → (records : List (List ℕ)) (doubt : Option (List ℕ))
-            → Stands (D.files disk.old) (D.crashes disk.old) self.old.log records doubt
-            → Leaves (ChangesAt (file_of self.old.log) (Ends (WithAtMost records (record_bytes number entry.now ∷ doubtful doubt)))) (D.crashes disk.old) (D.crashes disk.new) }
-
-        ensures placed { IsTrue D.tells → IsPlaced (D.files disk.new) self.new.log }
-        ensures kept { KeepsFile (IsTrue D.tells) self.old.log self.new.log (D.files disk.old) (D.files disk.new) }
-        ensures handed_out { D.handed_out disk.new ≡ D.handed_out disk.old }
-        ensures ages { Ages (D.health disk.old) (D.health disk.new) }
-        ensures fault { IsErrOf result Trouble.Fault → Failed (D.health disk.old) (D.health disk.new) }
+        client: u32,
+        points: &Batch,
+    ) -> Result<WalRecord, AllocError>
+        requires writable { IsWritable (Write client points.now) }
+        requires number { number ≤ last_number }
+        ensures record_of { IfOk result (λ made. made ≡ record_of number (Write client points.now)) }
+        ensures spells { IfOk result (λ made. SpellsRecord number (Write client points.now) made.body) }
     {
-        let body = record_of(self.alloc, number, entry)?;
-        self.log.append(self.alloc, disk, &body)?;
-        self.newest_here = self.newest_here.max(number);
-        self.last = Some(number);
+        let room = room_for_points(points.points());
+        let mut body = Vec::with_capacity(self.alloc, room.saturating_add(8))?;
+        put_u64(&mut body, number)?;
+        put_write(&mut body, client, points)?;
+        framed(self.alloc, number, &body)
+    }
+
+    /// The record of a deletion of this number: it takes all the memory that adding it needs.
+    pub fn delete_record(
+        &self,
+        number: u64,
+        client: u32,
+        deletion: &Deletion,
+    ) -> Result<WalRecord, AllocError>
+        requires writable { IsWritable (Delete client deletion.now) }
+        requires number { number ≤ last_number }
+        ensures record_of { IfOk result (λ made. made ≡ record_of number (Delete client deletion.now)) }
+        ensures spells { IfOk result (λ made. SpellsRecord number (Delete client deletion.now) made.body) }
+    {
+        let mut body = Vec::with_capacity(self.alloc, 64)?;
+        put_u64(&mut body, number)?;
+        put_delete(&mut body, client, deletion)?;
+        framed(self.alloc, number, &body)
+    }
+
+    /// Adds a record to the last segment, durably. Its number is one more than that of the last entry, or than the floor where no
+    /// entry is past it. It takes no memory. After a fault the entry is there or not, as `in_doubt` tells: where it answers false the
+    /// entry isn't there.
+    pub fn append<D: Disk>(&mut self, disk: &mut D, added: &WalRecord) -> Result<(), Trouble>
+        requires number { MayFollow self.old added.now.number }
+        requires placed { IsTrue D.tells → IsPlaced (D.files disk.old) self.old.log }
+        ensures log { Appends D.Disk added.now.body self.old.log self.new.log disk.old disk.new result }
+        ensures ok { OnOk result (self.new ≡ with_number self.old self.new.log added.now.number) }
+        ensures refused { OnErr result (self.new ≡ record self.old { log = self.new.log }) }
+    {
+        self.log.append(disk, &added.frame)?;
+        self.newest_here = self.newest_here.max(added.number);
+        self.last = added.number;
         Ok(())
     }
 
@@ -107,21 +122,8 @@ impl Wal {
     /// nothing.
     pub fn settle<D: Disk>(&mut self, disk: &mut D) -> Result<(), Trouble>
         requires { IsTrue D.tells → IsPlaced (D.files disk.old) self.old.log }
-
-        ensures ok { OnOk result (Settles (IsTrue D.tells) self.old.log self.new.log
-            (D.files disk.old) (D.files disk.new) (D.crashes disk.old) (D.crashes disk.new)) }
-        ensures refused { OnErr result (Remains (IsTrue D.tells) self.old.log self.new.log
-            (D.files disk.old) (D.files disk.new) (D.crashes disk.old) (D.crashes disk.new)) }
+        ensures log { Settling D.Disk self.old.log self.new.log disk.old disk.new result }
         ensures same { self.new ≡ record self.old { log = self.new.log } }
-        ensures crash { IsTrue D.tells → HasGate self.old.log → (records : List (List ℕ)) (doubt : Option (List ℕ))
-            → Stands (D.files disk.old) (D.crashes disk.old) self.old.log records doubt
-            → Leaves (ChangesAt (file_of self.old.log) (Ends (WithAtMost records (doubtful doubt)))) (D.crashes disk.old) (D.crashes disk.new) }
-        ensures idle { IsShutLog self.old.log → (IsOk result) × (self.new ≡ self.old) × (disk.new ≡ disk.old) }
-
-        ensures placed { IsTrue D.tells → IsPlaced (D.files disk.new) self.new.log }
-        ensures kept { KeepsFile (IsTrue D.tells) self.old.log self.new.log (D.files disk.old) (D.files disk.new) }
-        ensures handed_out { D.handed_out disk.new ≡ D.handed_out disk.old }
-        ensures fault { HasCause result (D.health disk.old) (D.health disk.new) }
     {
         self.log.settle(disk)
     }
@@ -166,16 +168,22 @@ impl Wal {
         self.has_room = false;
     }
 
-    /// Drops the segments at the front that hold no entry past this number, the last aside, and answers how many they were.
-    /// It takes no memory and leaves the files as they are.
-    pub fn forget(&mut self, up_to: u64) -> usize
-        ensures count { result ≡ settled_segments up_to self.old }
-        ensures left { self.new ≡ without_segments result self.old }
+    /// How many segments at the front hold no entry past this number, the last aside. Once an edit that forgets them is durable,
+    /// `forget` drops them.
+    pub fn settled(&self, up_to: u64) -> usize
+        ensures count { result ≡ settled_segments up_to self.now }
+        ensures fewer { result < length self.now.files }
     {
-        let count = up_to_count(&self.newest, up_to);
+        up_to_count(&self.newest, up_to)
+    }
+
+    /// Drops so many segments at the front, fewer than there are. It takes no memory and leaves the files as they are.
+    pub fn forget(&mut self, count: usize)
+        requires { count < length self.old.files }
+        ensures { self.new ≡ without_segments count self.old }
+    {
         drop_front(&mut self.files, count);
         drop_front(&mut self.newest, count);
-        count
     }
 }
 
@@ -187,18 +195,13 @@ fn one_file(alloc: Global, file: u32) -> Result<Vec<u32>, AllocError>
     Ok(files)
 }
 
-/// The body of a record.
-fn record_of(alloc: Global, number: u64, entry: &Entry) -> Result<Vec<u8>, AllocError>
-    requires writable { IsWritable entry.now }
-    requires number { number ≤ last_number }
-    ensures bytes { IfOk result (λ body. body.items ≡ record_bytes number entry.now) }
-    ensures small { IfOk result (λ body. length body.items ≤ 2 ^ 30) }
-    ensures spells { IfOk result (λ body. SpellsRecord number entry.now (record_bytes number entry.now)) }
+/// The record of this number whose body these bytes are.
+fn framed(alloc: Global, number: u64, body: &[u8]) -> Result<WalRecord, AllocError>
+    requires { length body.now ≤ 2 ^ 30 }
+    ensures { IfOk result (λ made. made ≡ record { number = number; body = body.now }) }
 {
-    let mut body = Vec::with_capacity(alloc, room_for(entry).saturating_add(8))?;
-    put_u64(&mut body, number)?;
-    put_entry(alloc, &mut body, entry)?;
-    Ok(body)
+    let frame = Frame::new(alloc, body)?;
+    Ok(WalRecord { number, frame })
 }
 
 /// Puts an item behind the others of a list that has room for it.

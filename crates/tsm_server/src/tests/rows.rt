@@ -1,13 +1,17 @@
 //! What requests and words are answered.
-use super::{Outcome, desk, desk_at, run};
+use super::{desk, desk_at, run};
 use std::alloc::{AllocError, Global};
 use std::test::Fail;
 use tsdb_types::Time;
 
-/// What the program leaves of this input.
-fn served(rt: &HostRuntime, input: &str) -> Result<Outcome, AllocError> {
+/// This input is read to its end, and its requests are given these replies.
+fn answers(rt: &HostRuntime, input: &str, replies: &str) -> Result<(), Fail> {
     let desk = desk(rt.alloc(), input, &[], &[])?;
-    run(rt, &["mem", "in", "out"], desk)
+    let outcome = run(rt, &["mem", "in", "out"], desk)?;
+    assert_eq!(rt; outcome.replies.as_str(), replies);
+    assert_eq!(rt; outcome.printed.as_str(), "");
+    assert_eq!(rt; outcome.status, 0);
+    Ok(())
 }
 
 #[test]
@@ -32,10 +36,7 @@ fn requests_are_answered(rt: HostRuntime) -> Result<(), Fail> {
         ),
     ];
     for (input, replies) in &rows {
-        let outcome = served(&rt, input)?;
-        assert_eq!(rt; outcome.replies.as_str(), *replies);
-        assert_eq!(rt; outcome.printed.as_str(), "");
-        assert_eq!(rt; outcome.status, 0);
+        answers(&rt, input, replies)?;
     }
     Ok(())
 }
@@ -65,10 +66,7 @@ fn writes_are_refused_by_their_cause(rt: HostRuntime) -> Result<(), Fail> {
         ),
     ];
     for (input, replies) in &rows {
-        let outcome = served(&rt, input)?;
-        assert_eq!(rt; outcome.replies.as_str(), *replies);
-        assert_eq!(rt; outcome.printed.as_str(), "");
-        assert_eq!(rt; outcome.status, 0);
+        answers(&rt, input, replies)?;
     }
     Ok(())
 }
@@ -109,10 +107,7 @@ fn a_batch_is_one_request(rt: HostRuntime) -> Result<(), Fail> {
         ),
     ];
     for (input, replies) in &rows {
-        let outcome = served(&rt, input)?;
-        assert_eq!(rt; outcome.replies.as_str(), *replies);
-        assert_eq!(rt; outcome.printed.as_str(), "");
-        assert_eq!(rt; outcome.status, 0);
+        answers(&rt, input, replies)?;
     }
     Ok(())
 }
@@ -153,9 +148,7 @@ fn limits_are_exact(rt: HostRuntime) -> Result<(), Fail> {
         ),
     ];
     for (input, replies) in &rows {
-        let outcome = served(&rt, input.as_str())?;
-        assert_eq!(rt; outcome.replies.as_str(), *replies);
-        assert_eq!(rt; outcome.status, 0);
+        answers(&rt, input.as_str(), replies)?;
     }
     Ok(())
 }

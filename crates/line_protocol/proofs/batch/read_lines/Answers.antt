@@ -21,7 +21,7 @@ lines-init c =
     let nothing : seen_of c.new-reader.result.kinds ≡ nothing_seen = seen-same (seen_of c.new-reader.result.kinds) nothing_seen c.new-reader.ensures in
     record {
       whole = λ others are.
-          subst (λ (r : Points). TextIs bytes moment r) (sym (ap (λ (ps : List Point). points_before ps others) c.new-points.ensures.items ∙ points_before-nil others))
+          subst (λ (r : Points). TextIs bytes moment r) (sym (ap (λ (ps : List Point). points_before ps others) c.new-points.ensures ∙ points_before-nil others))
           (subst (λ (s : Seen). LinesAre moment (lines_of bytes) 1 s others) nothing are);
       counted = refl;
       most = lit≤ tt;
@@ -50,7 +50,7 @@ lines-preserved c =
     let is = subst (λ (t : List ℕ). AnyLineIs (seen_of at.reader.kinds) moment t (Ok (record { points = added.0; seen = after }))) c.trimmed.ensures added.2 in
     record {
       whole = λ others are.
-          subst (λ (r : Points). TextIs c.args.bytes.now moment r) (points_before-both at.points.items added.0 others ∙ ap (λ (ps : List Point). points_before ps others) (sym added.1))
+          subst (λ (r : Points). TextIs c.args.bytes.now moment r) (points_before-both at.points added.0 others ∙ ap (λ (ps : List Point). points_before ps others) (sym added.1))
           (at.invariant.whole (points_before added.0 others) (lines-read moment at.left.now line behind at.number (seen_of at.reader.kinds) after added.0 others next is are));
       counted = omega (arith, at.invariant.counted, line_count-step at.left.now c.in-Some._newline.now behind began);
       most = omega (arith, low);
@@ -106,6 +106,6 @@ returns-in-None c =
     let few = lines-few at.number at.left.now (line_count c.args.bytes.now) at.invariant.counted at.invariant.most at.invariant.last one in
     inr (
       fits c.args.bytes.now c.requires.few few,
-      subst (λ (r : Points). TextIs c.args.bytes.now moment r) (points_before-end at.points.items added.0 ∙ ap (λ (ps : List Point). let r : Points = Ok ps in r) (sym added.1))
+      subst (λ (r : Points). TextIs c.args.bytes.now moment r) (points_before-end at.points added.0 ∙ ap (λ (ps : List Point). let r : Points = Ok ps in r) (sym added.1))
           (at.invariant.whole (points_before added.0 (Ok [])) (last-read moment at.left.now line at.number (seen_of at.reader.kinds) (seen_of c.read_any_line.new.reader.kinds) added.0 last is)),
     )

@@ -48,5 +48,5 @@ returns-clause-ok c =
     let walk = c.args.walk.now in
     let text = c.in_ok-text-2.ensures ∙ ap (λ (ps : List Part). walk.measurement.now ++ joined (texts_of ps)) c.as_slice-2.ensures.value in
     let same = subst (λ (t : List ℕ). IsPermutation (parts_behind 44 t) (texts_of parts)) c.cut.ensures.rest c.in_ok-sort_parts.ensures.same in
-    subst (λ (key : List ℕ). IsKeyOf (measurement_of walk.head.now) (tags_of walk.head.now) key) (sym c.key_of-2.ensures)
+    subst (λ (key : List ℕ). IsKeyOf (measurement_of walk.head.now) (tags_of walk.head.now) key) (sym c.in_ok-key-2.ensures)
     (sorted-key walk.head.now walk.measurement.now c.in_ok-text-2.text.items walk.ascend parts c.requires.named c.requires.spells same c.in_ok-sort_parts.ensures.cut (subst PartsAscend c.as_slice.ensures.value (c.ascend.ensures.0 c.if-not-ascend.false)) text).0

@@ -10,6 +10,7 @@ lines-init g c = record {
   front = [];
   whole = refl;
   taken = λ before held. takes_nothing (moment g.S.Store.told g.S.Store.health g.K.Sink.written g.C.Clock.moments c.args.session.now c.args.store.now c.args.sink.now c.args.clock.now) c.args.pending.now before held;
+  still = refl;
   ages = ages_still (g.K.Sink.health c.args.sink.now);
   none_out = c.requires.none_out;
 }
@@ -32,6 +33,7 @@ lines-preserved g c =
           (moment g.S.Store.told g.S.Store.health g.K.Sink.written g.C.Clock.moments c.lines.session c.lines.store c.lines.sink c.lines.clock)
           (moment g.S.Store.told g.S.Store.health g.K.Sink.written g.C.Clock.moments c.end_line.new.session c.end_line.new.store c.end_line.new.sink c.end_line.new.clock) c.lines.pending c.end_line.new.pending before
           front (line ++ 10 ∷ []) first (c.in_ok-end_line.ensures.ok (before ++ front) first.holds);
+      still = c.in_ok-end_line.ensures.fault.quiet (λ wrong. cc wrong) ∙ c.lines.invariant.still;
       ages = ages_then (g.K.Sink.health c.args.sink.now) (g.K.Sink.health c.lines.sink) (g.K.Sink.health c.end_line.new.sink) c.lines.invariant.ages c.end_line.ensures.fault.ages;
       none_out = c.end_line.ensures.none_out;
     }

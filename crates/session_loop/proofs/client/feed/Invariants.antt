@@ -10,6 +10,7 @@ invariant-lines g l = record {
   whole : l.piece ≡ front ++ l.rest;
   taken : (before : List ℕ) → HoldsLast l.fn.pending before → Takes (moment g.S.Store.told g.S.Store.health g.K.Sink.written g.C.Clock.moments l.fn.session l.fn.store l.fn.sink l.fn.clock)
       (moment g.S.Store.told g.S.Store.health g.K.Sink.written g.C.Clock.moments l.session l.store l.sink l.clock) l.pending before front;
+  still : g.K.Sink.health l.sink ≡ g.K.Sink.health l.fn.sink;
   ages : Ages (g.K.Sink.health l.fn.sink) (g.K.Sink.health l.sink);
   none_out : (g.S.Store.told l.store).out ≡ [];
 }

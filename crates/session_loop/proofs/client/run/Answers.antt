@@ -1,5 +1,5 @@
 -- The bytes read so far and the piece that came, or the end.
-use Rattle.std.proofs.Common.{ℕ, List, [], ◌++◌, take, subst, ap, arith}
+use Rattle.std.proofs.Common.{◌∙◌, ℕ, List, [], ◌++◌, take, refl, subst, ap, arith}
 use Rattle.session_io.specs.declared.report.End.TheVariants.{SinkFault, Memory}
 use Rattle.session_loop.specs.Progress.{Takes, Stops, moment}
 use Rattle.shard_disk.proofs.HealthLemmas.{ages_still, ages_then}
@@ -15,6 +15,8 @@ reads-init g c = record {
     record { given = grows_nothing (g.R.Source.given c.args.source.now); left = shrinks_nothing (g.R.Source.left c.args.source.now) },
     takes_nothing (moment g.S.Store.told g.S.Store.health g.K.Sink.written g.C.Clock.moments c.args.session.now c.args.store.now c.args.sink.now c.args.clock.now) c.args.pending.now [] (held_nothing c.args.pending.now held),
   );
+  source_still = refl;
+  sink_still = refl;
   source_ages = ages_still (g.R.Source.health c.args.source.now);
   sink_ages = ages_still (g.K.Sink.health c.args.sink.now);
 }
@@ -64,6 +66,8 @@ reads-preserved g c = record {
             (moment g.S.Store.told g.S.Store.health g.K.Sink.written g.C.Clock.moments c.feed.new.session c.feed.new.store c.feed.new.sink c.feed.new.clock) c.reads.pending c.feed.new.pending [] t.0 (take c.in-Ok.count c.read.new.buffer) t.2 (subst (λ (p : List ℕ). Takes (moment g.S.Store.told g.S.Store.health g.K.Sink.written g.C.Clock.moments c.reads.session c.reads.store c.reads.sink c.reads.clock)
             (moment g.S.Store.told g.S.Store.health g.K.Sink.written g.C.Clock.moments c.feed.new.session c.feed.new.store c.feed.new.sink c.feed.new.clock) c.feed.new.pending t.0 p) c.front-piece.ensures (c.in-Ok-feed.ensures.ok t.0 t.2.holds)),
       );
+  source_still = c.in-Ok.ensures.fault.ok refl ∙ c.reads.invariant.source_still;
+  sink_still = c.in-Ok-feed.ensures.fault.quiet (λ wrong. cc wrong) ∙ c.reads.invariant.sink_still;
   source_ages = ages_then (g.R.Source.health c.args.source.now) (g.R.Source.health c.reads.source) (g.R.Source.health c.read.new.self) c.reads.invariant.source_ages c.read.ensures.fault.ages;
   sink_ages = ages_then (g.K.Sink.health c.args.sink.now) (g.K.Sink.health c.reads.sink) (g.K.Sink.health c.feed.new.sink) c.reads.invariant.sink_ages c.feed.ensures.fault.ages;
 }

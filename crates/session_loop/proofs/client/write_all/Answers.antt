@@ -10,6 +10,7 @@ loop-rest-init g c = record {
   front = [];
   whole = refl;
   written = grows_nothing (g.K.Sink.written c.args.sink.now);
+  still = refl;
   ages = ages_still (g.K.Sink.health c.args.sink.now);
 }
 
@@ -24,5 +25,6 @@ loop-rest-preserved g c =
           ∙ sym (append_assoc front piece c.split_at.result.1.now);
       written = grows_more (g.K.Sink.written c.args.sink.now) (g.K.Sink.written c.loop-rest.sink) (g.K.Sink.written c.write.new.self) front piece
           c.loop-rest.invariant.written c.in_ok-count.ensures.written;
+      still = c.in_ok-count.ensures.fault.ok refl ∙ c.loop-rest.invariant.still;
       ages = ages_then (g.K.Sink.health c.args.sink.now) (g.K.Sink.health c.loop-rest.sink) (g.K.Sink.health c.write.new.self) c.loop-rest.invariant.ages c.write.ensures.fault.ages;
     }

@@ -9,6 +9,7 @@ invariant-loop-rest g l = record {
   front : List ℕ;
   whole : l.bytes ≡ front ++ l.rest;
   written : Grows (g.K.Sink.written l.fn.sink) (g.K.Sink.written l.sink) front;
+  still : g.K.Sink.health l.sink ≡ g.K.Sink.health l.fn.sink;
   ages : Ages (g.K.Sink.health l.fn.sink) (g.K.Sink.health l.sink);
 }
 

@@ -1,73 +1,19 @@
--- By what the store tells when a view begins and ends.
-use Rattle.std.proofs.Common.{ℕ, subst, List, ap, ◌∙◌}
-use Rattle.store_trait.specs.declared.fault.ViewFault.{ViewFault}
-use Rattle.store_trait.specs.Calls.View.{Ends, ViewHasCause, without}
+-- All points of the measurement are asked for, where there is memory for that.
+use Rattle.std.proofs.Common.{ℕ, List, refl, subst}
 use Rattle.session_model.specs.declared.statement.Statement.TheVariants.{Select as Selects}
-use Rattle.session_model.specs.Readable.{IsReadable}
-use Rattle.session_loop.specs.Steps.{stored}
-use Rattle.session_loop.specs.Texts.{IsTextOf, reply_of_view}
-use Rattle.session_loop.proofs.SelectLemmas.{view_serves, view_refused, view_memory, loan_back}
+use Rattle.session_loop.specs.Steps.{Stored, Serves, stored}
+use Rattle.session_loop.proofs.StepLemmas.{keeps_still}
+use Rattle.session_loop.proofs.ServingLemmas.{still_kept}
+use Rattle.session_loop.proofs.SelectLemmas.{view_memory}
 use Rattle.session_loop.proofs.select.select.Goals as goal
 
 pub returns-in-Ok-clause-served : goal.returns-in-Ok-clause-served
 returns-in-Ok-clause-served g c =
-    let told = g.S.Store.told in
-    let health = g.S.Store.health in
-    let cursor = g.S.View.PointCursor in
-    let ok = c.in-Ok.ensures in
-    let rows = c.rows_of-rows in
-    let ends = c.end_view.ensures in
-    view_serves (λ v. v.items) (stored told health c.args.store.now) (stored told health c.begin_view.new.self) (stored told health c.end_view.new.self)
-    c.args.field.now c.args.measurement c.number-number.result c.rows_of-rows.result c.show.new.text
-    (record {
-      need = c.all_of-need.result;
-      shown = cursor.shown c.in-Ok.view;
-      loan = cursor.loan c.in-Ok.view;
-      can_be_damaged = cursor.can_be_damaged c.in-Ok.view;
-      began = cursor.health c.in-Ok.view;
-      now = cursor.health c.rows_of-rows.new.view;
-      of = c.all_of-need.ensures.measurement;
-      all = c.all_of-need.ensures.all;
-      begins = ok.ok;
-      kept = ok.kept;
-      ages = ok.ages;
-      fresh = ok.fresh;
-      found = c.rows_of-rows.ensures.ok;
-      cause = c.rows_of-rows.ensures.fault;
-      ends = subst (λ (n : ℕ). Ends n (told c.begin_view.new.self) (told c.end_view.new.self)) c.rows_of-rows.ensures.loan ends.ended;
-      kept_on = ends.kept;
-      back = ends.health;
-      told = c.number-number.ensures;
-    })
-    (subst (λ (m : List ℕ). IsTextOf (reply_of_view (λ v. v.items) c.number-number.result m c.args.field.now c.rows_of-rows.result) c.show.new.text) c.all_of-need.ensures.measurement c.show.ensures.spelled)
-    (subst (λ (m : List ℕ). IsReadable (reply_of_view (λ v. v.items) c.number-number.result m c.args.field.now c.rows_of-rows.result)) c.all_of-need.ensures.measurement c.show.ensures.readable)
+    let old : Stored = stored g.S.Store.told g.S.Store.health c.args.store.now in
+    let new : Stored = stored g.S.Store.told g.S.Store.health c.look.new.store in
+    subst (λ (m : List ℕ). Serves old (Selects c.args.field.now m) c.look.new.text c.look.result new) c.in-Ok.ensures.measurement c.look.ensures.served
 
-pub returns-in-Err-Memory-clause-served : goal.returns-in-Err-Memory-clause-served
-returns-in-Err-Memory-clause-served g c =
-    let e = c.in-Err-Memory.ensures in
-    let told = g.S.Store.told in
-    let health = g.S.Store.health in
-    view_memory (stored told health c.args.store.now) (stored told health c.begin_view.new.self) (Selects c.args.field.now c.args.measurement) c.out_of_memory.new.self
-    c.out_of_memory.ensures e.kept e.err e.ages
-
-pub returns-clause-served : goal.returns-clause-served
-returns-clause-served g c =
-    let e = c.in-Err-Fault.ensures in
-    let told = g.S.Store.told in
-    let health = g.S.Store.health in
-    view_refused (stored told health c.args.store.now) (stored told health c.begin_view.new.self) (Selects c.args.field.now c.args.measurement) c.device_fault.new.self
-    c.device_fault.ensures e.kept e.err e.ages
-    (subst (λ (f : ViewFault). ViewHasCause (told c.begin_view.new.self) (health c.args.store.now) (health c.begin_view.new.self) f) c.in-Err-Fault.field-0-is e.refused)
-
-pub returns-in-Ok-clause-none_out : goal.returns-in-Ok-clause-none_out
-returns-in-Ok-clause-none_out g c =
-    let told = g.S.Store.told in
-    let loan : ℕ = g.S.View.PointCursor.loan c.in-Ok.view in
-    c.end_view.ensures.ended.out ∙ ap (λ (n : ℕ). without n (told c.begin_view.new.self).out) c.rows_of-rows.ensures.loan
-    ∙ ap (without loan) c.in-Ok.ensures.ok.out ∙ loan_back loan (told c.args.store.now).out ∙ c.requires.none_out
-
-pub returns-in-Err-Memory-clause-none_out : goal.returns-in-Err-Memory-clause-none_out
-returns-in-Err-Memory-clause-none_out g c = c.in-Err-Memory.ensures.err.out ∙ c.requires.none_out
-
-pub returns-clause-none_out : goal.returns-clause-none_out
-returns-clause-none_out g c = c.in-Err-Fault.ensures.err.out ∙ c.requires.none_out
+pub returns-in-Err-clause-served : goal.returns-in-Err-clause-served
+returns-in-Err-clause-served g c =
+    let store : Stored = stored g.S.Store.told g.S.Store.health c.args.store.now in
+    view_memory store store (Selects c.args.field.now c.args.measurement) c.out_of_memory.new.self c.out_of_memory.ensures (keeps_still store.told) (still_kept store) refl

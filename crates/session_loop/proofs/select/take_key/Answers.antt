@@ -34,6 +34,7 @@ loop-preserved g c =
       keys = advanced.keys ∙ before.keys;
       taken = told_then (TakesFront key old now) (TakesOf key (Some row)) (TakesFront key old c.push.new.self.items) (shown c.args.view.now).left (shown c.loop.view).left (shown c.next.new.self).left
           (λ x y z a b. subst (λ (l : List Found). TakesFront key old l x z) (sym c.in_ok-push-in-Some.ensures.items) (front_more key row old now x y z a b)) before.taken advanced.rows;
+      still = call.fault.quiet (λ wrong. cc wrong) ∙ before.still;
       ages = ages_then (health c.args.view.now) (health c.loop.view) (health c.next.new.self) before.ages call.fault.ages;
       can_be_damaged = call.can_be_damaged ∙ before.can_be_damaged;
       loan = call.loan ∙ before.loan;

@@ -29,6 +29,7 @@ loop-key-preserved g c =
             field_taken field keys c.args.found.now.items found now left to_take.0 next.0 key within to_take.2
                 (subst (λ (l : List Key). TakesField field l key found now to_take.0 next.0) before.keys next.2),
           );
+      still = call.fault.quiet (λ wrong. cc wrong) ∙ before.still;
       ages = ages_then (health c.args.view.now) (health c.loop-key.view) (health c.take_of.new.view) before.ages call.fault.ages;
       can_be_damaged = call.can_be_damaged ∙ before.can_be_damaged;
       loan = call.loan ∙ before.loan;

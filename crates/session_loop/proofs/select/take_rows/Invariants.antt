@@ -12,6 +12,7 @@ invariant-loop-key g l = record {
   to_take : (left : List (List Row)) → (g.V.PointCursor.shown l.fn.view).left ≡ Some left
       → (rest : List (List Row)) × ((g.V.PointCursor.shown l.view).left ≡ Some rest)
       × AreToTake l.field (g.V.PointCursor.shown l.fn.view).keys l.fn.found.items left l.key l.found.items rest;
+  still : g.V.PointCursor.health l.view ≡ g.V.PointCursor.health l.fn.view;
   ages : Ages (g.V.PointCursor.health l.fn.view) (g.V.PointCursor.health l.view);
   can_be_damaged : g.V.PointCursor.can_be_damaged l.view ≡ g.V.PointCursor.can_be_damaged l.fn.view;
   loan : g.V.PointCursor.loan l.view ≡ g.V.PointCursor.loan l.fn.view;

@@ -1,10 +1,21 @@
 -- The batch was accepted, or refused by a cause.
-use Rattle.std.proofs.Common.{ℕ, sym, ◌∙◌, subst, arith, Option}
+use Rattle.std.proofs.Common.{◌≡◌, ℕ, sym, ◌∙◌, subst, arith, Option, Result, Ok, Err}
+use Rattle.std.specs.Prelude.{IsErrOf}
+use Rattle.store_trait.specs.declared.fault.WriteFault.{WriteFault}
+use Rattle.store_trait.specs.declared.fault.WriteFault.TheVariants as fault
 use Rattle.session_model.specs.declared.statement.Statement.TheVariants.{Write}
 use Rattle.session_loop.specs.Steps.{Stored, Serves, stored}
 use Rattle.session_loop.proofs.StepLemmas.{accepted_step}
 use Rattle.session_loop.proofs.ServingLemmas.{refused_serves}
 use Rattle.session_loop.proofs.serve.write.Goals as goal
+
+quiet_ok : (r : Result ℕ WriteFault) (number : ℕ) → r ≡ Ok number → ¬ (IsErrOf r fault.Fault)
+quiet_ok (Ok n) number is = λ wrong. cc wrong
+quiet_ok (Err e) number is = cc is
+
+quiet_err : (r : Result ℕ WriteFault) (why : WriteFault) → r ≡ Err why → (why ≡ fault.Fault → ⊥) → ¬ (IsErrOf r fault.Fault)
+quiet_err (Ok n) why is other = cc is
+quiet_err (Err e) why is other = λ wrong. other (cc (is, wrong))
 
 pub returns-in-Ok-clause-served : goal.returns-in-Ok-clause-served
 returns-in-Ok-clause-served g c =
@@ -13,7 +24,7 @@ returns-in-Ok-clause-served g c =
     record {
       reply = _;
       spelled = c.accepted.ensures;
-      step = λ request moment means. accepted_step old new request moment c.args.batch.now c.in-Ok.number (omega arith) means c.in-Ok.ensures.ok c.write.ensures.kept c.write.ensures.ages;
+      step = λ request moment means. accepted_step old new request moment c.args.batch.now c.in-Ok.number (omega arith) means c.in-Ok.ensures.ok c.write.ensures.kept (c.write.ensures.quiet (quiet_ok _ _ c.in-Ok.is));
     }
 
 pub returns-in-Err-clause-served : goal.returns-in-Err-clause-served
@@ -21,7 +32,8 @@ returns-in-Err-clause-served g c =
     let old : Stored = stored g.S.Store.told g.S.Store.health c.args.store.now in
     let new : Stored = stored g.S.Store.told g.S.Store.health c.write.new.self in
     subst (λ (n : Option ℕ). Serves old (Write c.args.batch.now) c.refused.new.text n new) (sym c.refused.ensures.number)
-    (refused_serves old new c.args.batch.now c.refused.new.text c.in-Err.fault c.refused.ensures.text c.refused.ensures.readable c.write.ensures.kept c.in-Err.ensures.err c.write.ensures.ages c.in-Err.ensures.refused)
+    (refused_serves old new c.args.batch.now c.refused.new.text c.write.ensures.kept c.in-Err.ensures.err c.write.ensures.ages c.in-Err.fault c.refused.ensures.text c.refused.ensures.readable
+    c.in-Err.ensures.refused (λ other. c.write.ensures.quiet (quiet_err _ _ c.in-Err.is other)))
 
 pub returns-in-Ok-clause-none_out : goal.returns-in-Ok-clause-none_out
 returns-in-Ok-clause-none_out g c = c.in-Ok.ensures.ok.out ∙ c.requires.none_out

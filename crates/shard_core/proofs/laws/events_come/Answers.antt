@@ -1,5 +1,5 @@
 use Rattle.std.proofs.Common.{arith}
-use Rattle.shard_core.proofs.ComeLemmas.{snapshot_ends, merge_ends, empty_readable}
+use Rattle.shard_core.proofs.ComeLemmas.{snapshot_ends, merge_ends, empty_opens, empty_readable}
 use Rattle.shard_core.proofs.WholeLemmas.{standing}
 use Rattle.shard_core.proofs.laws.events_come.Goals as goal
 
@@ -9,4 +9,5 @@ returns c = record {
   end_merge = λ core inv. merge_ends core (standing core inv);
   directory = record { generations = omega arith; once = λ n. omega arith };
   readable = empty_readable;
+  opens = empty_opens;
 }

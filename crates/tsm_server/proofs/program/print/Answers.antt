@@ -5,7 +5,7 @@ use Rattle.tsm_server.proofs.Growing.{grows_none, grows_more}
 use Rattle.tsm_server.proofs.program.print.Goals as goal
 
 pub loop-rest-init : goal.loop-rest-init
-loop-rest-init g c = record { front = []; whole = refl; taken = grows_none _ }
+loop-rest-init g c = record { front = []; whole = refl; still = refl; wants = refl; taken = grows_none _ }
 
 pub loop-rest-preserved : goal.loop-rest-preserved
 loop-rest-preserved g c =
@@ -16,6 +16,8 @@ loop-rest-preserved g c =
       whole = c.loop-rest.invariant.whole
           ∙ ap (λ (l : List ℕ). front ++ l) (sym (take-append-drop c.in-Ok.count c.loop-rest.rest.now) ∙ ap (λ (l : List ℕ). piece ++ l) (sym c.behind-rest.ensures))
           ∙ sym (append_assoc front piece c.behind-rest.result.now);
+      still = c.in-Ok.ensures.fault.ok refl ∙ c.loop-rest.invariant.still;
+      wants = c.in-Ok.ensures.wants.other (λ wrong. cc wrong) ∙ c.loop-rest.invariant.wants;
       taken = grows_more (g.K.Sink.written c.args.out.now) (g.K.Sink.written c.loop-rest.out) (g.K.Sink.written c.write.new.self) front piece
           c.loop-rest.invariant.taken c.in-Ok.ensures.written;
     }

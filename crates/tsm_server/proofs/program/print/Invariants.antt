@@ -7,6 +7,8 @@ abbrev pub invariant-loop-rest : goal.invariant-loop-rest
 invariant-loop-rest g l = record {
   front : List ℕ;
   whole : l.line ≡ front ++ l.rest;
+  still : g.K.Sink.health l.out ≡ g.K.Sink.health l.fn.out;
+  wants : g.K.Sink.wants l.out ≡ g.K.Sink.wants l.fn.out;
   taken : Grows (g.K.Sink.written l.fn.out) (g.K.Sink.written l.out) front;
 }
 

@@ -1,9 +1,11 @@
-use Rattle.std.proofs.Common.{reverse}
-use Rattle.wal_store.proofs.PutLemmas.{Putting, left_long}
+use Rattle.std.proofs.Common.{◌≡◌, ◌++◌, take}
+use Rattle.std.specs.List.{flat_map, AllByRecursion}
+use Rattle.wal_store.proofs.PutLemmas.{IsPartAt, bytes_at}
 use Rattle.wal_store.proofs.condition.put_condition.Given as goal
 
-abbrev pub invariant-loop-side : goal.invariant-loop-side
-invariant-loop-side l = Putting l.condition l.initial.out.items l.out.items (reverse l.sides.items)
-
-abbrev pub decreases-loop-side : goal.decreases-loop-side
-decreases-loop-side l = left_long (reverse l.sides.items)
+-- the parts so far are put
+abbrev pub invariant-loop-placed : goal.invariant-loop-placed
+invariant-loop-placed l = record {
+  bytes : l.out.items ≡ l.initial.out.items ++ flat_map bytes_at (take l.placed-index l.placed-items);
+  parts : AllByRecursion IsPartAt (take l.placed-index l.placed-items);
+}

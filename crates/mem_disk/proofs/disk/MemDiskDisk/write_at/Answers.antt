@@ -1,4 +1,4 @@
-use Rattle.std.proofs.Common.{List, ap, length, subst, sym, true, false}
+use Rattle.std.proofs.Common.{List, ap, length, subst, sym}
 use Rattle.std.proofs.lemmas.Bool.{false≢true}
 use Rattle.std.specs.Prelude.{reverse}
 use Rattle.shard_disk.specs.Directory.{Directory, ChangesAt, IfThere, Torn}

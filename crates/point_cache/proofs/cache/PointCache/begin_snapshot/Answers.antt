@@ -1,7 +1,7 @@
 use Rattle.std.proofs.Common.{List, [], take, None, refl, sym, ap, ◌∙◌, subst}
 use Rattle.std.specs.List.{AllByRecursion}
 use Rattle.point_cache.specs.declared.key_points.KeyRun.{KeyRun}
-use Rattle.point_cache.specs.Cached.{Cached, IsRun, points_at}
+use Rattle.point_cache.specs.Cached.{Cached, IsRun, count, points_at}
 use Rattle.point_cache.specs.Staged.{Staging, lives}
 use Rattle.point_cache.proofs.PlainLemmas.{count_lives}
 use Rattle.point_cache.proofs.ResultLemmas.{on_err}
@@ -43,6 +43,7 @@ returns-clause-ok c =
       snapshot = refl;
       points = λ key. frozen.points key ∙ ap (λ (rs : List KeyRun). points_at rs key) (rows ∙ ap (λ (v : Cached). v.runs) c.self.view_is);
       ordered = frozen.ordered;
+      counted = frozen.counted ∙ ap count (rows ∙ ap (λ (v : Cached). v.runs) c.self.view_is);
       runs = ap (λ (s : Staging). take 0 (lives s.entries)) c.in_ok-frozen.ensures.none;
       room = refl;
       tombs = c.new.ensures;

@@ -1,8 +1,8 @@
-use Rattle.std.proofs.Common.{List, refl, sym, ap, ◌∙◌, subst}
+use Rattle.std.proofs.Common.{List, refl, sym, ap, ◌∙◌, subst, arith}
 use Rattle.std.specs.List.{AllByRecursion}
 use Rattle.point_model.specs.Rows.{Row}
 use Rattle.point_cache.specs.declared.key_points.KeyRun.{KeyRun}
-use Rattle.point_cache.specs.Cached.{Cached, IsRun, latest, points_at, value_at}
+use Rattle.point_cache.specs.Cached.{Cached, IsRun, count, latest, points_at, value_at}
 use Rattle.point_cache.specs.Calls.{value_without}
 use Rattle.point_cache.specs.Staged.{lives}
 use Rattle.point_cache.proofs.CacheLemmas.{all_front, taken_value}
@@ -31,6 +31,11 @@ returns c =
           ap (λ (rs : List KeyRun). value_at rs key t) front ∙ ap (λ (l : List Row). latest l t) (c.remove.ensures.points key)
           ∙ taken_value own c.args.from c.args.to key (points_at (lives c.discard.new.self.entries) key) t
           ∙ ap (λ (rs : List KeyRun). value_without own c.args.from c.args.to key t (value_at rs key t)) (rows ∙ ap (λ (v : Cached). v.runs) c.self.view_is);
+      counted =
+          let one = ap count front in
+          let less = c.remove.ensures.fewer in
+          let was = ap count (rows ∙ ap (λ (v : Cached). v.runs) c.self.view_is) in
+          omega (arith, one, less, was);
       room = refl;
       snapshot = ap (λ (v : Cached). v.snapshot) c.self.view_is;
       tombs = ap (λ (v : Cached). v.tombs) c.self.view_is;

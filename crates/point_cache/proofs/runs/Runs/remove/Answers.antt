@@ -1,11 +1,11 @@
 use Rattle.std.proofs.Common.{◌≡◌, List, [], sym, ap, ◌∙◌, subst, arith}
 use Rattle.std.specs.List.{AllByRecursion}
 use Rattle.point_model.specs.Rows.{Row}
-use Rattle.point_cache.specs.Cached.{IsRun, points_at}
+use Rattle.point_cache.specs.Cached.{IsRun, count, points_at}
 use Rattle.point_cache.specs.Leaving.{points_without}
 use Rattle.point_cache.specs.Staged.{Staging, IsUnstaged, entries_of, lives}
 use Rattle.point_cache.proofs.EntryLemmas.{place_has, staged_found, staged_or}
-use Rattle.point_cache.proofs.PlainLemmas.{have_of, runs_of, up_of, points_lives, staging_unstaged, unstaged_plain, up_covered}
+use Rattle.point_cache.proofs.PlainLemmas.{count_lives, have_of, runs_of, up_of, points_lives, staging_unstaged, unstaged_plain, up_covered}
 use Rattle.point_cache.proofs.StepLemmas.{plain_lives}
 use Rattle.point_cache.proofs.TakeLemmas.{none_of, without_none}
 use Rattle.point_cache.proofs.runs.Runs.remove.Goals as goal
@@ -49,6 +49,16 @@ returns-in-Some-clause-each c = λ each.
     let runs = subst (λ (s : Staging). AllByRecursion IsRun (lives s.entries)) (sym c.self.view_is) each in
     let removes = c.remove_at-taken.ensures.removes in
     runs_of new (removes.some (have_of es runs)) (removes.ascending (up_of es runs))
+
+pub returns-in-Some-clause-fewer : goal.returns-in-Some-clause-fewer
+returns-in-Some-clause-fewer c =
+    let es = entries_of c.self.inside.map.entries in
+    let new = entries_of c.remove_at-taken.new.map.entries in
+    let counted = c.remove_at-taken.ensures.counted in
+    let one = count_lives new in
+    let two = count_lives es in
+    let was = ap (λ (s : Staging). count (lives s.entries)) c.self.view_is in
+    omega (arith, counted, one, two, was)
 
 pub returns-in_default-clause-points : goal.returns-in_default-clause-points
 returns-in_default-clause-points c = λ other.

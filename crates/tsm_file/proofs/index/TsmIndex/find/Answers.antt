@@ -1,50 +1,20 @@
-use Rattle.std.proofs.Common.{◌≡◌, ℕ, ◌<◌, List, length, None, get_or, inl, inr, sym, ap, ◌∙◌, subst, arith, rules, of_calls}
-use Rattle.std.specs.Ordering.{nat_cmp, ordering_index}
-use Rattle.std.specs.Cmp.Lexicographic.{slice_cmp, nat_list_cmp_total}
-use Rattle.std.specs.List.Sorted.{IsNonDecreasingBy}
-use Rattle.std.proofs.lemmas.Bool.{cases_lt}
-use Rattle.std.proofs.lemmas.Fn.{always_returns_same}
-use Rattle.std.proofs.lemmas.List.Sorted.{searchable_from_sorted}
+use Rattle.std.proofs.Common.{◌<◌, List, length, get_or, sym, ap, ◌∙◌, subst}
+use Rattle.std.proofs.lemmas.Option.{slice_get_within}
 use Rattle.tsm_format.specs.declared.row.KeyRow.{KeyRow}
-use Rattle.tsm_format.specs.Rows.{AreEntries, AreRows, first_block}
 use Rattle.tsm_file.specs.ReadIndex.{Index}
-use Rattle.tsm_file.proofs.RowLemmas.{not_above, not_below, row_blocks, same_key, sorted_by_key}
+use Rattle.tsm_file.proofs.RowLemmas.{has_at, row_blocks_at}
 use Rattle.tsm_file.proofs.index.TsmIndex.find.Goals as goal
 
-pub returns-in-Ok-clause-found : goal.returns-in-Ok-clause-found
-returns-in-Ok-clause-found c =
-    let rows = c.as_slice-rows.result.now in
-    let key = c.args.key.now in
-    let row = c.index-rows-k.result in
-    let k = c.in-Ok.k in
-    let held : c.as_slice-rows.result.now ≡ c.args.self.now.rows = c.as_slice-rows.ensures.value ∙ ap (λ (i : Index). i.rows) c.self.view_is in
-    let tied = c.in-Ok.ensures.position (λ (r : KeyRow). slice_cmp nat_cmp r.key key) (always_returns_same _ _ _ (λ a r f q. search (rules, of_calls))) row in
-    let same : get_or rows k row ≡ row = sym c.index-rows-k.is in
-    let found : row.key ≡ key = same_key row.key key (ap (λ (r : KeyRow). slice_cmp nat_cmp r.key key) (sym same) ∙ tied) in
-    ((k, subst (λ (l : List KeyRow). k < length l) held c.in-Ok.ensures.bound, ap (λ (l : List KeyRow). get_or l k row) (sym held) ∙ same), found)
+pub returns-in-Some-clause-found : goal.returns-in-Some-clause-found
+returns-in-Some-clause-found c =
+    let held = ap (λ (i : Index). i.rows) c.self.view_is in
+    let row = c.index.result.now in
+    let found = c.in-Some.ensures.found in
+    has_at c.args.self.now.rows c.args.key.now c.in-Some.k found.0 row found.1 found.2 (c.index.ensures ∙ ap (λ (l : List KeyRow). get_or l c.in-Some.k row) held)
 
-pub returns-in-Ok-clause-blocks : goal.returns-in-Ok-clause-blocks
-returns-in-Ok-clause-blocks c =
-    let rows = c.as_slice-rows.result.now in
-    let row = c.index-rows-k.result in
-    let k = c.in-Ok.k in
-    let good : AreRows None first_block c.as_slice-rows.result.now = subst (AreRows None first_block) (sym c.as_slice-rows.ensures.value) c.self.invariant.good in
-    let blocks = row_blocks None first_block rows k row c.in-Ok.ensures.bound good in
-    subst (λ (r : KeyRow). (place : ℕ) × AreEntries None place r.entries) (sym c.index-rows-k.is) blocks
-
-pub returns-in-Err-clause-none : goal.returns-in-Err-clause-none
-returns-in-Err-clause-none c = λ k d lt same.
-    let rows : List KeyRow = c.as_slice-rows.result.now in
-    let key = c.args.key.now in
-    let place = c.in-Err.field-0 in
-    let held : c.as_slice-rows.result.now ≡ c.args.self.now.rows = c.as_slice-rows.ensures.value ∙ ap (λ (i : Index). i.rows) c.self.view_is in
-    let good : AreRows None first_block c.as_slice-rows.result.now = subst (AreRows None first_block) (sym c.as_slice-rows.ensures.value) c.self.invariant.good in
-    let rising : IsNonDecreasingBy (λ (r : KeyRow). ordering_index (slice_cmp nat_cmp r.key key)) c.as_slice-rows.result.now =
-    searchable_from_sorted nat_list_cmp_total (λ (r : KeyRow). r.key) rows key (sorted_by_key None first_block rows good) in
-    let point = c.in-Err.ensures.position (λ (r : KeyRow). slice_cmp nat_cmp r.key key) (always_returns_same _ _ _ (λ a r f q. search (rules, of_calls))) rising in
-    let inside : k < length c.as_slice-rows.result.now = subst (λ (l : List KeyRow). k < length l) (sym held) lt in
-    let same' : (get_or c.as_slice-rows.result.now k d).key ≡ key = ap (λ (l : List KeyRow). (get_or l k d).key) held ∙ same in
-    elim (cases_lt k place) [
-      | inl below ↦ not_below (get_or rows k d).key key (point.0 k d (omega arith) below) same'
-      | inr from ↦ not_above (get_or rows k d).key key (point.1 k d from inside) same'
-    ]
+pub returns-in-Some-clause-blocks : goal.returns-in-Some-clause-blocks
+returns-in-Some-clause-blocks c =
+    let held = ap (λ (i : Index). i.rows) c.self.view_is in
+    let found = c.in-Some.ensures.found in
+    let within = slice_get_within c.args.self.now.rows c.in-Some.k found.0 found.1 in
+    row_blocks_at c.self.inside.rows.items c.in-Some.k c.index.result.now (subst (λ (l : List KeyRow). c.in-Some.k < length l) (sym held) within) c.index.ensures c.self.invariant.good

@@ -1,0 +1,2 @@
+mod BetweenLemmas
+mod SeenLemmas
