@@ -64,17 +64,17 @@ behind_measurement : (bytes name behind : List ℕ) → bytes ≡ text_bytes nam
 behind_measurement bytes name behind found named deletion spells =
     same_text name deletion.measurement behind (condition_bytes deletion.tags ++ (bytes_of_i64 deletion.from ++ bytes_of_i64 deletion.to)) named.room.short spells.is.measurement.room.short (sym found ∙ spells.spelling)
 
-pub no_tags : (bytes name behind : List ℕ) → bytes ≡ text_bytes name ++ behind → IsNameText name → ((condition : TagCond) (rest : List ℕ) → IsCondition most_nested condition → behind ≢ condition_bytes condition ++ rest)
+pub no_tags : (bytes name behind : List ℕ) → bytes ≡ text_bytes name ++ behind → IsNameText name → ((condition : Condition) (rest : List ℕ) → IsCondition most_nested condition → behind ≢ condition_bytes condition ++ rest)
     → (deletion : Deletion) → SpellsDeletion deletion bytes → ⊥
 no_tags bytes name behind found named none deletion spells =
     none deletion.tags (bytes_of_i64 deletion.from ++ bytes_of_i64 deletion.to) spells.is.tags (behind_measurement bytes name behind found named deletion spells).1
 
-behind_tags : (bytes name behind rest : List ℕ) (tags : TagCond) → bytes ≡ text_bytes name ++ behind → IsNameText name → behind ≡ condition_bytes tags ++ rest → IsCondition most_nested tags → (deletion : Deletion) → SpellsDeletion deletion bytes
+behind_tags : (bytes name behind rest : List ℕ) (tags : Condition) → bytes ≡ text_bytes name ++ behind → IsNameText name → behind ≡ condition_bytes tags ++ rest → IsCondition most_nested tags → (deletion : Deletion) → SpellsDeletion deletion bytes
     → (tags ≡ deletion.tags) × (rest ≡ bytes_of_i64 deletion.from ++ bytes_of_i64 deletion.to)
 behind_tags bytes name behind rest tags found named also ok deletion spells =
     same_condition tags deletion.tags rest (bytes_of_i64 deletion.from ++ bytes_of_i64 deletion.to) ok.comparisons spells.is.tags.comparisons (sym also ∙ (behind_measurement bytes name behind found named deletion spells).1)
 
-pub no_bounds : (bytes name behind rest : List ℕ) (tags : TagCond) → bytes ≡ text_bytes name ++ behind → IsNameText name → behind ≡ condition_bytes tags ++ rest → IsCondition most_nested tags → BeginsNoBounds rest
+pub no_bounds : (bytes name behind rest : List ℕ) (tags : Condition) → bytes ≡ text_bytes name ++ behind → IsNameText name → behind ≡ condition_bytes tags ++ rest → IsCondition most_nested tags → BeginsNoBounds rest
     → (deletion : Deletion) → SpellsDeletion deletion bytes → ⊥
 no_bounds bytes name behind rest tags found named also ok none deletion spells =
     none deletion.from deletion.to spells.is.from spells.is.to (behind_tags bytes name behind rest tags found named also ok deletion spells).1

@@ -173,6 +173,7 @@ reads_from : (tells : Type 0) (file : ℕ) (log : Log) (records : List (List ℕ
 reads_from tells file log records files old mid new run reads = record {
   found = reads.found;
   fit = reads.fit;
+  place = reads.place;
   durable = reads.durable;
   stands = λ t all. reads.stands t (λ image now. let from = run.now image now in subst (λ (f : Directory). IsPresent f file) (sym from.2) (all from.0 from.1));
   gated = reads.gated;

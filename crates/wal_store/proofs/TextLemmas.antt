@@ -1,5 +1,5 @@
 -- A text is read off the front of bytes in one way.
-use Rattle.std.proofs.Common.{◌≡◌, ◌≢◌, ℕ, ◌^◌, ◌<◌, ◌≤◌, List, [], ◌∷◌, ◌++◌, length, Option, Some, None, Result, Ok, Err, IfNone, IfOk, IfSome, IsNone, refl, sym, ap, subst, ◌∙◌, arith}
+use Rattle.std.proofs.Common.{◌≡◌, ◌≢◌, ℕ, ◌^◌, ◌<◌, ◌≤◌, List, [], ◌∷◌, ◌++◌, length, Option, Some, None, Result, Ok, Err, IfNone, IfOk, IfSome, IsNone, ◌↔◌, refl, sym, ap, subst, ◌∙◌, arith}
 use Rattle.std.specs.Str.{IsUtf8}
 use Rattle.std.proofs.lemmas.List.{append_assoc, length-append}
 use Rattle.fixed_width.specs.Fields.{bytes_of_u16}
@@ -84,3 +84,13 @@ if_some_is P None v is p = tt
 pub if_none_is : {T : Type 0} {P : Type 0} (r : Option T) → (IsNone r → P) → IfNone r P
 if_none_is (Some w) f = tt
 if_none_is None f = f refl
+
+pub ok_some_is : {X E : Type 0} (P : X → Type 0) (r : Result (Option X) E) (x : X) → IfOk r (λ m. IfSome m (λ b. b ≡ x)) → P x → IfOk r (λ m. IfSome m P)
+ok_some_is P (Ok None) x e p = tt
+ok_some_is P (Ok (Some b)) x e p = subst P (sym e) p
+ok_some_is P (Err e) x i p = tt
+
+pub ok_none_is : {X E Q : Type 0} (R : Type 0) (r : Result (Option X) E) → IfOk r (λ m. IsNone m ↔ Q) → (Q → ⊥) → IfOk r (λ m. IfNone m R)
+ok_none_is R (Ok None) e never = absurd (never (e.0 refl))
+ok_none_is R (Ok (Some b)) e never = tt
+ok_none_is R (Err e) i never = tt

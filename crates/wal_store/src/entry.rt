@@ -17,7 +17,7 @@ use crate::text::{put_text, take_name};
 use fixed_width::{put_i64, put_u32, take_i64, take_u32};
 use point_model::{Deletion, Entry};
 use std::alloc::{AllocError, Global};
-use tsdb_types::{Batch, Point, Time};
+use tsdb_types::{Batch, Point, Seed, Time};
 
 // The bytes that say what an entry is.
 const WRITE: u8 = 1;
@@ -115,19 +115,23 @@ fn put_deletion(out: &mut Vec<u8>, deletion: &Deletion) -> Result<(), AllocError
     put_i64(out, deletion.to.get())
 }
 
-/// The entry that these bytes stand for.
-pub fn read_entry(alloc: Global, bytes: &[u8]) -> Result<Entry, EntryFault>
+/// The entry that these bytes stand for. Its columns are found by hashes that begin with the seed.
+pub fn read_entry(alloc: Global, seed: Seed, bytes: &[u8]) -> Result<Entry, EntryFault>
     ensures found { IfOk result (λ entry. Spells entry bytes.now) }
     ensures bad { IsErrOf result EntryFault.BadEntry → (entry : Entry) → Spells entry bytes.now → ⊥ }
 {
-    match take_entry(alloc, bytes)? {
+    match take_entry(alloc, seed, bytes)? {
         Some(entry) => Ok(entry),
         None => Err(EntryFault::BadEntry),
     }
 }
 
 /// The entry that these bytes stand for, where they do for one.
-pub fn take_entry(alloc: Global, bytes: &[u8]) -> Result<Option<Entry>, AllocError>
+pub fn take_entry(
+    alloc: Global,
+    seed: Seed,
+    bytes: &[u8],
+) -> Result<Option<Entry>, AllocError>
     ensures found { IfOk result (λ taken. IfSome taken (λ entry. Spells entry bytes.now)) }
     ensures none { IfOk result (λ taken. IfNone taken ((entry : Entry) → Spells entry bytes.now → ⊥)) }
 {
@@ -141,7 +145,7 @@ pub fn take_entry(alloc: Global, bytes: &[u8]) -> Result<Option<Entry>, AllocErr
         return Ok(None);
     };
     match kind {
-        WRITE => match take_groups(alloc, body)? {
+        WRITE => match take_groups(alloc, seed, body)? {
             Some(points) => Ok(Some(Entry::Write { client, points })),
             None => Ok(None),
         },

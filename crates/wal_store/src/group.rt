@@ -12,7 +12,7 @@ use crate::point::{put_point, take_point};
 use crate::text::{put_text, take_text};
 use fixed_width::{put_u32, take_u32};
 use std::alloc::{AllocError, Global};
-use tsdb_types::{Batch, Point, SeriesKey};
+use tsdb_types::{Batch, Point, Seed, SeriesKey};
 
 /// Puts points as groups: one for each run of one series.
 pub fn put_groups(out: &mut Vec<u8>, points: &[Point]) -> Result<(), AllocError>
@@ -109,7 +109,11 @@ fn is_of(series: &SeriesKey, point: &Point) -> bool
 }
 
 /// The points of the groups of which these are the bytes and nothing else.
-pub fn take_groups(alloc: Global, bytes: &[u8]) -> Result<Option<Batch>, AllocError>
+pub fn take_groups(
+    alloc: Global,
+    seed: Seed,
+    bytes: &[u8],
+) -> Result<Option<Batch>, AllocError>
     ensures found { IfOk result (λ taken. IfSome taken (λ batch. SpellsPoints batch bytes.now)) }
     ensures none { IfOk result (λ taken. IfNone taken ((points : List Point) → SpellsPoints points bytes.now → ⊥)) }
 {
@@ -120,7 +124,7 @@ pub fn take_groups(alloc: Global, bytes: &[u8]) -> Result<Option<Batch>, AllocEr
         return Ok(None);
     }
     match take_all(alloc, count, groups)? {
-        Some(points) => Ok(Batch::new(points)),
+        Some(points) => Batch::new(points, seed),
         None => Ok(None),
     }
 }

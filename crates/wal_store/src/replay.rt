@@ -13,6 +13,7 @@ use gate_log::LogFault;
 use point_model::Entry;
 use shard_disk::Disk;
 use std::alloc::{AllocError, Global};
+use tsdb_types::Seed;
 
 impl Wal {
     /// The log that these segments are, the oldest first, and its entries past the floor, which is a number of at most
@@ -25,6 +26,7 @@ impl Wal {
     /// `Body` where it is no entry's and `Number` where it is past the floor and not one more than the last one that was.
     pub fn replay<D: Disk>(
         alloc: Global,
+        seed: Seed,
         disk: &mut D,
         segments: &[u32],
         floor: u64,
@@ -44,8 +46,8 @@ impl Wal {
         ensures ages { Ages (D.health disk.old) (D.health disk.new) }
     {
         let (before, last) = cut_last(segments);
-        let (newest, mut entries) = read_segments(alloc, disk, before, floor)?;
-        let (log, newest_here) = read_segment(alloc, disk, last, floor, &mut entries)?;
+        let (newest, mut entries) = read_segments(alloc, seed, disk, before, floor)?;
+        let (log, newest_here) = read_segment(alloc, seed, disk, last, floor, &mut entries)?;
         let files = copy_of(alloc, segments)?;
         let last = last_of(floor, &entries);
         let wal = Wal {

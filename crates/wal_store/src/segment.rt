@@ -17,10 +17,12 @@ use gate_log::{Log, LogFault};
 use point_model::Entry;
 use shard_disk::{Damage, Disk, Why};
 use std::alloc::{AllocError, Global};
+use tsdb_types::Seed;
 
 /// The segments in order: the greatest number of each, and the entries past the floor.
 pub fn read_segments<D: Disk>(
     alloc: Global,
+    seed: Seed,
     disk: &mut D,
     segments: &[u32],
     floor: u64,
@@ -38,7 +40,7 @@ pub fn read_segments<D: Disk>(
     let mut newest = Vec::new(alloc);
     let mut entries = Vec::new(alloc);
     for file in segments {
-        let (_, greatest) = read_segment(alloc, disk, *file, floor, &mut entries)?;
+        let (_, greatest) = read_segment(alloc, seed, disk, *file, floor, &mut entries)?;
         newest.push(greatest)?;
     }
     Ok((newest, entries))
@@ -47,6 +49,7 @@ pub fn read_segments<D: Disk>(
 /// One segment: its log, and the greatest number in it. Its entries past the floor come behind the others.
 pub fn read_segment<D: Disk>(
     alloc: Global,
+    seed: Seed,
     disk: &mut D,
     file: u32,
     floor: u64,
@@ -65,13 +68,14 @@ pub fn read_segment<D: Disk>(
     ensures ages { Ages (D.health disk.old) (D.health disk.new) }
 {
     let (log, records) = Log::read(alloc, disk, file)?;
-    let newest = read_records(alloc, file, &records, floor, entries)?;
+    let newest = read_records(alloc, seed, file, &records, floor, entries)?;
     Ok((log, newest))
 }
 
 /// The greatest number of the records.
 fn read_records(
     alloc: Global,
+    seed: Seed,
     file: u32,
     records: &[Vec<u8>],
     floor: u64,
@@ -87,6 +91,7 @@ fn read_records(
     for record in records {
         let number = follow(
             alloc,
+            seed,
             Damage {
                 file,
                 offset: gate,
@@ -109,6 +114,7 @@ fn read_records(
 /// The number of a record, whose entry is kept where it is past the floor. It is named here where it is none, or not the next one.
 fn follow(
     alloc: Global,
+    seed: Seed,
     place: Damage,
     body: &[u8],
     floor: u64,
@@ -121,7 +127,7 @@ fn follow(
         → (damage.file ≡ place.file) × (damage.offset ≡ place.offset) × ((before : List Logged) → Holds floor before entries.old.items → IsStrange damage.why floor before body.now) }
     ensures no_fault { IsErrOf result LogFault.Fault → ⊥ }
 {
-    let Some((number, entry)) = take_record(alloc, body)? else {
+    let Some((number, entry)) = take_record(alloc, seed, body)? else {
         return Err(LogFault::Damaged(place));
     };
     if !keep(entries, floor, number, entry)? {

@@ -5,12 +5,12 @@ use Rattle.wal_store.proofs.PutLemmas.{IsPartAt, Parts, bytes_at, parts_bytes, p
 use Rattle.wal_store.proofs.condition.put_condition.Goals as goal
 
 pub put_part-requires : goal.put_part-requires
-put_part-requires c = short_at c.args.condition.now c.parts-placed-items.result.now c.loop-placed.placed-index c.loop-placed-item.result c.requires c.parts-placed-items.ensures c.loop-placed-test.true c.loop-placed-item.is
+put_part-requires c = short_at c.args.condition.now c.parts-placed-items.result.now c.loop-placed.placed-index c.placed-item.result c.requires c.parts-placed-items.ensures c.loop-placed-test.true c.placed-item.is
 
 pub loop-placed-preserved : goal.loop-placed-preserved
 loop-placed-preserved c =
-    let more = put_more c.args.out.now.items c.loop-placed.out.items c.put_part.new.out.items c.parts-placed-items.result.now c.loop-placed.placed-index c.loop-placed-item.result
-    c.loop-placed-test.true c.loop-placed-item.is c.loop-placed.invariant.bytes c.loop-placed.invariant.parts c.in_ok-put_part.ensures.ok c.in_ok-put_part.ensures.part
+    let more = put_more c.args.out.now.items c.loop-placed.out.items c.put_part.new.out.items c.parts-placed-items.result.now c.loop-placed.placed-index c.placed-item.result
+    c.loop-placed-test.true c.placed-item.is c.loop-placed.invariant.bytes c.loop-placed.invariant.parts c.in_ok-put_part.ensures.ok c.in_ok-put_part.ensures.part
     in
     record { bytes = more.0; parts = more.1 }
 
