@@ -10,6 +10,7 @@ pub mod OrderLemmas
 mod PartLemmas
 mod PlaceLemmas
 mod ReadingLemmas
+mod SizeLemmas
 mod SortedLemmas
 mod TextLemmas
 mod TokenLemmas

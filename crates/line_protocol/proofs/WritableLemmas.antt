@@ -1,5 +1,5 @@
--- A batch that is read may be handed to a store: each field of a measurement has one kind in it, and its keys are keys.
-use Rattle.std.proofs.Common.{◌≡◌, ℕ, zero, suc, ◌+◌, ◌<◌, ◌≤◌, Bool, true, false, cond, ◌&&◌, ◌||◌, ltb, inl, inr, ⊎_elim, Option, Some, None, Result, Ok, Err, List, [], ◌∷◌, ◌++◌, length, get_or, take, drop, ℤ, refl, sym, ap, subst, ◌∙◌, IsTrue, nat_eq, arith}
+-- A batch that is read may be handed to a store: each field of a measurement has one kind in it, its keys are keys, and its record fits a log.
+use Rattle.std.proofs.Common.{◌≡◌, ℕ, zero, suc, ◌+◌, ◌*◌, ◌<◌, ◌≤◌, Bool, true, false, cond, ◌&&◌, ◌||◌, ltb, inl, inr, ⊎_elim, Option, Some, None, Result, Ok, Err, List, [], ◌∷◌, ◌++◌, length, get_or, take, drop, ℤ, refl, sym, ap, subst, ◌∙◌, IsTrue, nat_eq, arith}
 use Rattle.std.specs.Bool.{MatchBool}
 use Rattle.std.specs.Option.{MatchOption}
 use Rattle.std.specs.Cmp.Lexicographic.{pointwise}
@@ -18,11 +18,12 @@ use Rattle.tsdb_types.specs.declared.point.Point.{Point}
 use Rattle.tsdb_types.specs.declared.value.Kind.{Kind}
 use Rattle.tsdb_types.specs.declared.value.Kind.TheVariants.{Integer, Unsigned, Boolean}
 use Rattle.point_model.specs.Acceptance.{IsKeyed, IsWritable}
+use Rattle.point_model.specs.Sizes.{runs_length, write_length, most_bytes}
 use Rattle.point_model.specs.Measurements.{measurement_head, is_same_field}
 use Rattle.line_protocol.specs.declared.fault.LineCode.{LineCode}
 use Rattle.line_protocol.specs.declared.fault.LineCode.TheVariants.{DuplicateTag, NoField, KeyTooLong, MarkInKey, ReservedName, KindInBatch}
 use Rattle.line_protocol.specs.declared.field.Field.{Field}
-use Rattle.line_protocol.specs.Batches.{Points, lines_of, points_before, Follows, LinesAre, Lines}
+use Rattle.line_protocol.specs.Batches.{Points, lines_of, points_before, Follows, LinesAre, Lines, IsTooLong, line_count}
 use Rattle.line_protocol.specs.Fields.{fields_of}
 use Rattle.line_protocol.specs.Heads.{head_code, measurement_of, tags_of, has_time_tag}
 use Rattle.line_protocol.specs.Kinds.{Seen, nothing_seen, place_of, is_same, note_behind, note, note_all}
@@ -33,6 +34,7 @@ use Rattle.line_protocol.specs.Readings.{◌>>=◌, unless}
 use Rattle.line_protocol.proofs.ClosedLemmas.{measurement-closed, key-measurement}
 use Rattle.line_protocol.proofs.LineLemmas.{cut-at}
 use Rattle.line_protocol.proofs.PartLemmas.{decided}
+use Rattle.line_protocol.proofs.SizeLemmas.{total, runs-both, line-size, trimmed-le, lines-total, lines-counted}
 
 -- the fact holds of each of these
 abbrev Each : {X : Type 0} → (X → Type 0) → List X → Type 0
@@ -169,10 +171,11 @@ steps-keys series (field ∷ fields) t e =
     (step-key series field.name step.0 step.1, steps-keys series fields t step.2)
 
 -- what the steps behind the head leave where each has a value
-record RestRead (seen : Seen) (measurement series : List ℕ) (read : Read) : Type 0 where
+record RestRead (text : List ℕ) (seen : Seen) (measurement series : List ℕ) (read : Read) : Type 0 where
   fields : List Field
   at : ℤ
   is : read.points ≡ points_of at series fields
+  spelled : fields_of (parts 44 false text) ≡ Ok fields
   keys : Each (λ field. IsKey series field.name) fields
   noted : Each (IsNoted read.seen measurement) fields
   kept : Keeps seen read.seen
@@ -187,7 +190,7 @@ read-of : (read other : Read) → read_ok read ≡ read_ok other → read ≡ ot
 read-of read other e = cc
 
 rest-read : (seen : Seen) (moment : ℤ) (measurement : List ℕ) (reserved : Bool) (series fields time : List ℕ) (read : Read)
-    → rest_of seen moment measurement reserved series fields time ≡ Ok read → RestRead seen measurement series read
+    → rest_of seen moment measurement reserved series fields time ≡ Ok read → RestRead fields seen measurement series read
 unfolding rest_of
 rest-read seen moment measurement reserved series fields time read e =
     let one = bind-ok (fields_of (parts 44 false fields))
@@ -205,15 +208,16 @@ rest-read seen moment measurement reserved series fields time read e =
     let five = bind-ok (note_all seen measurement found) (λ (after : Seen). Ok (to_read (points_of at series found) after)) read four.2 in
     let same : to_read (points_of at series found) five.0 ≡ read = read-of (to_read (points_of at series found) five.0) read five.2 in
     let noted = noted-kept measurement found seen five.0 five.1 in
-    let here : RestRead seen measurement series (to_read (points_of at series found) five.0) = record {
+    let here : RestRead fields seen measurement series (to_read (points_of at series found) five.0) = record {
       fields = found;
       at = at;
       is = refl;
+      spelled = one.1;
       keys = steps-keys series found four.0 four.1;
       noted = noted.0;
       kept = noted.1;
     } in
-    subst (λ (r : Read). RestRead seen measurement series r) same here
+    subst (λ (r : Read). RestRead fields seen measurement series r) same here
 
 -- where the point's field is noted, by what the point alone tells
 abbrev place_at : Point → List ℕ
@@ -231,12 +235,18 @@ fields-good seen measurement series at is (field ∷ fields) keys noted = (
   fields-good seen measurement series at is fields keys.1 noted.1,
 )
 
+first-key : (series : List ℕ) (fields : List Field) (field : Field) (others : List Field) → fields ≡ field ∷ others → Each (λ field. IsKey series field.name) fields → length (key_of series field.name) ≤ 65535
+first-key series fields field others are keys =
+    let first : Each (λ field. IsKey series field.name) (field ∷ others) = subst (λ (fs : List Field). Each (λ field. IsKey series field.name) fs) are keys in
+    first.0.0
+
 -- what a line that is read leaves
-record LineRead (seen : Seen) (read : Read) : Type 0 where
+record LineRead (seen : Seen) (line : List ℕ) (read : Read) : Type 0 where
   good : Each (IsGood read.seen) read.points
   kept : Keeps seen read.seen
+  sized : runs_length read.points ≤ 65541 + 20 * length line
 
-filled-read : (seen : Seen) (moment : ℤ) (line : List ℕ) (read : Read) → FieldsAre seen moment line (Ok read) → LineRead seen read
+filled-read : (seen : Seen) (moment : ℤ) (line : List ℕ) (read : Read) → FieldsAre seen moment line (Ok read) → LineRead seen line read
 filled-read seen moment line read (inl none) = let e : read_ok read ≡ Err NoField = none.1 in absurd (cc)
 filled-read seen moment line read (inr some) =
     let head = head_of line in
@@ -247,29 +257,32 @@ filled-read seen moment line read (inr some) =
     record {
       good = subst (λ (ps : List Point). Each (IsGood read.seen) ps) (sym rest.is) (fields-good read.seen measurement series rest.at first rest.fields rest.keys rest.noted);
       kept = rest.kept;
+      sized = subst (λ (ps : List Point). runs_length ps ≤ 65541 + 20 * length line) (sym rest.is)
+          (line-size rest.at line series rest.fields rest.spelled (λ field others are. first-key series rest.fields field others are rest.keys));
     }
 
-tags-read : (seen : Seen) (moment : ℤ) (line : List ℕ) (read : Read) → TagsAre seen moment line (Ok read) → LineRead seen read
+tags-read : (seen : Seen) (moment : ℤ) (line : List ℕ) (read : Read) → TagsAre seen moment line (Ok read) → LineRead seen line read
 tags-read seen moment line read (inl twice) = let e : read_ok read ≡ Err DuplicateTag = twice.1 in absurd (cc)
 tags-read seen moment line read (inr differ) = filled-read seen moment line read differ.1
 
 head-read : (code : Option LineCode) (seen : Seen) (moment : ℤ) (line : List ℕ) (read : Read)
-    → MatchOption code (TagsAre seen moment line (Ok read)) (λ c. read_ok read ≡ Err c) → LineRead seen read
+    → MatchOption code (TagsAre seen moment line (Ok read)) (λ c. read_ok read ≡ Err c) → LineRead seen line read
 head-read None seen moment line read is = tags-read seen moment line read is
 head-read (Some code) seen moment line read is = absurd (cc)
 
 any-read : (skipped : Bool) (seen : Seen) (moment : ℤ) (line : List ℕ) (read : Read)
-    → MatchBool skipped (read_ok read ≡ read_ok (to_read [] seen)) (LineIs seen moment line (Ok read)) → LineRead seen read
+    → MatchBool skipped (read_ok read ≡ read_ok (to_read [] seen)) (LineIs seen moment line (Ok read)) → LineRead seen line read
 any-read true seen moment line read is =
-    let nothing : LineRead seen (to_read [] seen) = record { good = tt; kept = λ at kind h. h } in
-    subst (λ (r : Read). LineRead seen r) (sym (read-of read (to_read [] seen) is)) nothing
+    let nothing : LineRead seen line (to_read [] seen) = record { good = tt; kept = λ at kind h. h; sized = omega arith } in
+    subst (λ (r : Read). LineRead seen line r) (sym (read-of read (to_read [] seen) is)) nothing
 any-read false seen moment line read is = head-read (head_code (head_of line)) seen moment line read is
 
 -- what lines that are read leave
-record LinesRead (seen : Seen) (points : List Point) : Type 0 where
+record LinesRead (lines : List (List ℕ)) (seen : Seen) (points : List Point) : Type 0 where
   after : Seen
   good : Each (IsGood after) points
   kept : Keeps seen after
+  sized : runs_length points ≤ 65541 * length lines + 20 * total lines
 
 abbrev points_ok : List Point → Points
 points_ok points = Ok points
@@ -281,28 +294,30 @@ before-ok : (first : List Point) (others : Points) (points : List Point) → poi
 before-ok first (Ok more) points e = (more, refl, points-of points (first ++ more) e)
 before-ok first (Err at) points e = absurd (cc)
 
-lines-after : (number : ℕ) (read : Result Read LineCode) (seen : Seen) (Others : Seen → Points → Type 0) (points : List Point)
-    → ((r : Read) → read ≡ Ok r → LineRead seen r)
-    → ((s : Seen) (more : List Point) → Others s (Ok more) → LinesRead s more)
-    → Follows number read Others (Ok points) → LinesRead seen points
-lines-after number (Ok first) seen Others points line lines is =
+lines-after : (line : List ℕ) (lines : List (List ℕ)) (number : ℕ) (read : Result Read LineCode) (seen : Seen) (Others : Seen → Points → Type 0) (points : List Point)
+    → ((r : Read) → read ≡ Ok r → LineRead seen (trimmed line) r)
+    → ((s : Seen) (more : List Point) → Others s (Ok more) → LinesRead lines s more)
+    → Follows number read Others (Ok points) → LinesRead (line ∷ lines) seen points
+lines-after line lines number (Ok first) seen Others points read behind_read is =
     let cut = before-ok first.points is.0 points is.2 in
-    let here = line first refl in
-    let behind = lines first.seen cut.0 (subst (λ (r : Points). Others first.seen r) cut.1 is.1) in
+    let here = read first refl in
+    let behind = behind_read first.seen cut.0 (subst (λ (r : Points). Others first.seen r) cut.1 is.1) in
     let good = each-weaker (IsGood first.seen) (IsGood behind.after) (λ p g. (g.0, behind.kept (place_at p) (kind_of p.value) g.1)) first.points here.good in
     record {
       after = behind.after;
       good = subst (λ (ps : List Point). Each (IsGood behind.after) ps) (sym cut.2) (each-both (IsGood behind.after) first.points cut.0 good behind.good);
       kept = λ at kind h. behind.kept at kind (here.kept at kind h);
+      sized = subst (λ (ps : List Point). runs_length ps ≤ 65541 * length (line ∷ lines) + 20 * total (line ∷ lines)) (sym cut.2)
+          (omega (arith, runs-both first.points cut.0, here.sized, behind.sized, trimmed-le line));
     }
-lines-after number (Err code) seen Others points line lines is = absurd (cc)
+lines-after line lines number (Err code) seen Others points read behind_read is = absurd (cc)
 
-lines-read : (moment : ℤ) (lines : List (List ℕ)) (number : ℕ) (seen : Seen) (points : List Point) → LinesAre moment lines number seen (Ok points) → LinesRead seen points
+lines-read : (moment : ℤ) (lines : List (List ℕ)) (number : ℕ) (seen : Seen) (points : List Point) → LinesAre moment lines number seen (Ok points) → LinesRead lines seen points
 lines-read moment [] number seen points is =
-    let nothing : LinesRead seen [] = record { after = seen; good = tt; kept = λ at kind h. h } in
-    subst (λ (ps : List Point). LinesRead seen ps) (sym (points-of points [] is)) nothing
+    let nothing : LinesRead [] seen [] = record { after = seen; good = tt; kept = λ at kind h. h; sized = omega arith } in
+    subst (λ (ps : List Point). LinesRead [] seen ps) (sym (points-of points [] is)) nothing
 lines-read moment (line ∷ lines) number seen points is =
-    lines-after number is.0 seen (λ s r. LinesAre moment lines (number + 1) s r) points
+    lines-after line lines number is.0 seen (λ s r. LinesAre moment lines (number + 1) s r) points
     (λ r e. any-read (is_skipped (trimmed line)) seen moment (trimmed line) r (subst (λ (read : Result Read LineCode). AnyLineIs seen moment (trimmed line) read) e is.1))
     (λ s more are. lines-read moment lines (number + 1) s more are)
     is.2
@@ -329,6 +344,20 @@ same-place a b is =
     ap (λ (h : List ℕ). place_of (unescaped measurement_ends_at h) a.cell.field) (pointwise-same (measurement_head a.cell.series) (measurement_head b.cell.series) (both-first heads fields is))
     ∙ ap (λ (f : List ℕ). place_of (unescaped measurement_ends_at (measurement_head b.cell.series)) f) (pointwise-same a.cell.field b.cell.field (both-second heads fields is))
 
+-- the record of the batch isn't too long: 5,001 heads of at most 65,541 bytes, and twenty bytes for each of the text
+writes-fit : (text : List ℕ) (points : List Point) → ¬ (IsTooLong text) → runs_length points ≤ 65541 * length (lines_of text) + 20 * total (lines_of text) → write_length points ≤ most_bytes
+writes-fit text points short sized =
+    let bytes : length text ≤ 16777216 = ⊎_elim
+    (λ (long : 16777216 < length text). absurd (short (inl long)))
+    (λ (fits : length text ≤ 16777216). fits)
+    (cases_lt 16777216 (length text)) in
+    let many : line_count text ≤ 5000 = ⊎_elim
+    (λ (long : 5000 < line_count text). absurd (short (inr long)))
+    (λ (fits : line_count text ≤ 5000). fits)
+    (cases_lt 5000 (line_count text)) in
+    let heads : length (lines_of text) ≤ 5001 = omega (arith, many, lines-counted text) in
+    omega (arith, sized, heads, bytes, lines-total text)
+
 -- a batch may be handed to a store
 pub lines-writable : (text : List ℕ) (moment : ℤ) (points : List Point) → Lines text moment points → IsWritable points
 lines-writable text moment points is =
@@ -340,4 +369,5 @@ lines-writable text moment points is =
           let good_b = All-contains (IsGood read.after) points b all in_b in
           some-of (kind_of a.value) (kind_of b.value) (sym good_a.1 ∙ ap read.after (same-place a b same) ∙ good_b.1);
       keyed = λ k d l. (all k d l).0;
+      fits = writes-fit text points is.fits read.sized;
     }
