@@ -127,11 +127,7 @@ pub fn read_entry(alloc: Global, seed: Seed, bytes: &[u8]) -> Result<Entry, Entr
 }
 
 /// The entry that these bytes stand for, where they do for one.
-pub fn take_entry(
-    alloc: Global,
-    seed: Seed,
-    bytes: &[u8],
-) -> Result<Option<Entry>, AllocError>
+pub fn take_entry(alloc: Global, seed: Seed, bytes: &[u8]) -> Result<Option<Entry>, AllocError>
     ensures found { IfOk result (λ taken. IfSome taken (λ entry. Spells entry bytes.now)) }
     ensures none { IfOk result (λ taken. IfNone taken ((entry : Entry) → Spells entry bytes.now → ⊥)) }
 {

@@ -109,11 +109,7 @@ fn is_of(series: &SeriesKey, point: &Point) -> bool
 }
 
 /// The points of the groups of which these are the bytes and nothing else.
-pub fn take_groups(
-    alloc: Global,
-    seed: Seed,
-    bytes: &[u8],
-) -> Result<Option<Batch>, AllocError>
+pub fn take_groups(alloc: Global, seed: Seed, bytes: &[u8]) -> Result<Option<Batch>, AllocError>
     ensures found { IfOk result (λ taken. IfSome taken (λ batch. SpellsPoints batch bytes.now)) }
     ensures none { IfOk result (λ taken. IfNone taken ((points : List Point) → SpellsPoints points bytes.now → ⊥)) }
 {
