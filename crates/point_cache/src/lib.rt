@@ -13,6 +13,3 @@ mod taking;
 
 pub use cache::PointCache;
 pub use key_points::{Key, KeyPoints, KeyRun, KeyRuns, RunPoints};
-
-#[cfg(test)]
-mod tests;

@@ -1,9 +1,9 @@
-use crate::PointCache;
+use point_cache::PointCache;
 use std::alloc::Global;
 use std::hash::RandomState;
 use std::test::Fail;
 use tombstones::TombSet;
-use tsdb_types::{Batch, Cell, Name, Point, SeriesKey, Tags, Time, Value};
+use tsdb_types::{Batch, Cell, Name, Point, Seed, SeriesKey, Tags, Time, Value};
 
 fn at(number: i64) -> Time {
     Time::new(number).unwrap_or_default()
@@ -29,7 +29,7 @@ fn batch_of(alloc: Global, rows: &[(&str, i64, i64)]) -> Option<Batch> {
     for (series, time, value) in rows {
         points.push(point(alloc, series, *time, *value)?).ok()?;
     }
-    Batch::new(points)
+    Batch::new(points, Seed::new(7)).ok()?
 }
 
 // Sets points, and tells whether it could.
