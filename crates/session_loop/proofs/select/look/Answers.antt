@@ -57,8 +57,8 @@ returns-in-Err-Memory-clause-served g c =
     view_memory (stored told health c.args.store.now) (stored told health c.begin_view.new.self) (Selects c.args.field.now c.args.need.now.measurement) c.out_of_memory.new.self
     c.out_of_memory.ensures e.kept e.err (c.begin_view.ensures.quiet (quiet_memory _ _ c.in-Err-Memory.is c.in-Err-Memory.field-0-is))
 
-pub returns-clause-served : goal.returns-clause-served
-returns-clause-served g c =
+pub returns-in-Err-Fault-clause-served : goal.returns-in-Err-Fault-clause-served
+returns-in-Err-Fault-clause-served g c =
     let e = c.in-Err-Fault.ensures in
     let told = g.S.Store.told in
     let health = g.S.Store.health in
@@ -76,5 +76,5 @@ returns-in-Ok-clause-none_out g c =
 pub returns-in-Err-Memory-clause-none_out : goal.returns-in-Err-Memory-clause-none_out
 returns-in-Err-Memory-clause-none_out g c = c.in-Err-Memory.ensures.err.out ∙ c.requires.none_out
 
-pub returns-clause-none_out : goal.returns-clause-none_out
-returns-clause-none_out g c = c.in-Err-Fault.ensures.err.out ∙ c.requires.none_out
+pub returns-in-Err-Fault-clause-none_out : goal.returns-in-Err-Fault-clause-none_out
+returns-in-Err-Fault-clause-none_out g c = c.in-Err-Fault.ensures.err.out ∙ c.requires.none_out
