@@ -27,7 +27,7 @@ memory_alone : (tells : Bool) (series : ℕ) (before : List Entry) (answer : Ans
     → ReplyHasCause tells None series before answer reply → reply ≡ OutOfMemory
 memory_alone tells series before answer OutOfMemory steady cause = refl
 memory_alone tells series before answer DeviceFault steady cause = absurd (steady refl)
-memory_alone tells series before answer (Damaged file offset) steady cause = absurd (no_limit cause.0)
+memory_alone tells series before answer (Damaged file offset) steady cause = absurd (no_limit cause.3)
 memory_alone tells series before answer (CacheFull held) steady cause = absurd cause.2
 memory_alone tells series before answer (SeriesFull held) steady cause = absurd cause.2
 memory_alone tells series before answer (Accepted number) steady cause = absurd cause
@@ -95,7 +95,8 @@ pub record BeginsAlone (old : Stored) : Type 0 where
   pub faults : old.health.faults ≡ 0
   pub steady : IsTrue old.health.is_steady
 
-same_numbers : (number : ℕ) (history : List Entry) → store_numbers number history ≡ numbers_from number history
+-- the two definitions of the numbers of entries say the same
+pub same_numbers : (number : ℕ) (history : List Entry) → store_numbers number history ≡ numbers_from number history
 same_numbers number [] = refl
 same_numbers number (entry ∷ history) = ap (λ (l : List ℕ). number ∷ l) (same_numbers (number + 1) history)
 

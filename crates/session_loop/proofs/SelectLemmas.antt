@@ -291,7 +291,8 @@ module _ {X : Type 0} (view : X → List Row) (old mid new : Stored) (field meas
       aside_step (Err (cursor_fault.Damaged damage)) seen request moment (Damaged damage.file damage.offset) refl readable
       (λ same. absurd (damaged_not_fault damage.file damage.offset same))
       (λ other. view_still (Err (cursor_fault.Damaged damage)) seen (λ wrong. cc wrong))
-      (inl (record { aside = tt; cause = damaged_cause damage seen; number = inr (now_told (Err (cursor_fault.Damaged damage)) seen) }))
+      (let can = damaged_cause damage seen in
+      inl (record { aside = tt; cause = (field, measurement, means, can.0, can.1); number = inr (now_told (Err (cursor_fault.Damaged damage)) seen) }))
 
   -- the reply to a SELECT is the machine's, or has its cause
   pub view_serves : (rows : Result X CursorFault) (bytes : List ℕ) → Viewed view old mid new field measurement rows number

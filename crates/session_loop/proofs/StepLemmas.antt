@@ -123,7 +123,7 @@ pub cause_later : (tells tells' : Bool) (limits limits' : Option Limits) (series
 cause_later tells tells' limits limits' series series' before answer OutOfMemory told limited more cause = tt
 cause_later tells tells' limits limits' series series' before answer DeviceFault told limited more cause = tt
 cause_later tells tells' limits limits' series series' before answer (Damaged file offset) told limited more cause =
-    (subst (λ (o : Option Limits). IsSome o) (sym limited) cause.0, told ∙ cause.1)
+    (cause.0, cause.1, cause.2, subst (λ (o : Option Limits). IsSome o) (sym limited) cause.3, told ∙ cause.4)
 cause_later tells tells' limits limits' series series' before answer (CacheFull held) told limited more cause =
     (cause.0, cause.1, some_by limits limits' (PassesCache cause.0 held before) (PassesCache cause.0 held before) limited (λ l passes. passes) cause.2)
 cause_later tells tells' limits limits' series series' before answer (SeriesFull held) told limited more cause =

@@ -7,7 +7,7 @@ use Rattle.point_model.specs.declared.entry.Entry.{Entry}
 use Rattle.store_trait.specs.Told.{Told, Limits, Keeps}
 use Rattle.store_trait.specs.Calls.Write.{PassesCache, PassesSeries}
 use Rattle.session_model.specs.declared.statement.Statement.{Statement}
-use Rattle.session_model.specs.declared.statement.Statement.TheVariants.{Write}
+use Rattle.session_model.specs.declared.statement.Statement.TheVariants.{Write, Select}
 use Rattle.session_model.specs.Lines.{Request}
 use Rattle.session_model.specs.Requests.{Means}
 use Rattle.session_model.specs.Replies.{Reply, text, accepted}
@@ -30,7 +30,8 @@ module _ (tells : Bool) (limits : Option Limits) (series : ℕ) (before : List E
   abbrev pub ReplyHasCause : Answer → Reply → Type 0
   ReplyHasCause answer OutOfMemory = Unit {0}
   ReplyHasCause answer DeviceFault = Unit {0}
-  ReplyHasCause answer (Damaged file offset) = IsSome limits × (tells ≡ false)
+  ReplyHasCause answer (Damaged file offset) = (field measurement : List ℕ) × Means answer.request answer.moment (Select field measurement)
+      × IsSome limits × (tells ≡ false)
   ReplyHasCause answer (CacheFull held) = (points : List Point) × Means answer.request answer.moment (Write points)
       × IsSomeAnd limits (PassesCache points held before)
   ReplyHasCause answer (SeriesFull held) = (points : List Point) × Means answer.request answer.moment (Write points)

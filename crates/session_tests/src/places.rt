@@ -73,11 +73,11 @@ struct NotingGate<'a> {
 }
 
 impl<'a> Gate for NotingGate<'a> {
-    fn reach(&self, _who: u32, place: Place) {
-        match place {
-            Place::View => note(&self.views, 10, self.out),
-            Place::Reply => note(&self.replies, 1000, self.taken),
-            Place::Job => note(&self.views, 10, self.taken),
+    fn reach(&self, who: u32, place: Place) {
+        match (who, place) {
+            (3, Place::View) => note(&self.views, 10, self.out),
+            (3, Place::Reply) => note(&self.replies, 1000, self.taken),
+            _ => note(&self.views, 10, self.taken),
         }
     }
 }
@@ -119,7 +119,7 @@ fn the_gate_is_told_where_a_session_is(rt: HostRuntime) -> Result<(), Fail> {
         &mut sink,
         &mut clock,
         &gate,
-        0,
+        3,
     );
     assert_eq!(rt;
         sink.inner.bytes(),

@@ -1,5 +1,5 @@
 -- Why the program ended so, from how its one session ended.
-use Rattle.std.proofs.Common.{inl, inr, ℕ, List, Option}
+use Rattle.std.proofs.Common.{◌≡◌, inl, inr, ℕ, List, Option}
 use Rattle.shard_disk.specs.Health.{Health}
 use Rattle.session_io.specs.declared.client.Word.{Word}
 use Rattle.session_io.specs.declared.client.Client.{Client}
@@ -11,8 +11,8 @@ use Rattle.tsm_server.specs.Outcomes.{Devices, ClosesOne, HasCause, status_by}
 
 module _ {S K C : Type 0} (members : Devices S K C) (words : List Word) (old new : Health) (held_before held_now : Option (List (Held S K C))) (before now : List Closed) where
   -- one client was handed out, served and closed
-  pub caused : (input output : List ℕ) → AsksMem words input output → (client : Client S K C) → HandsOut input output client held_before held_now → (end : End) → ClosesOne members client before now end → HasCause members words old new held_before held_now before now (status_by end)
-  caused input output asked client handed Read closes = record { input = input; output = output; asked = asked; client = client; handed = handed; closes = closes }
-  caused input output asked client handed SourceFault closes = ((input, output, asked), inr (inl (record { input = input; output = output; asked = asked; client = client; handed = handed; closes = closes })))
-  caused input output asked client handed SinkFault closes = ((input, output, asked), inr (inr (record { input = input; output = output; asked = asked; client = client; handed = handed; closes = closes })))
-  caused input output asked client handed Memory closes = ((input, output, asked), inr (record { input = input; output = output; asked = asked; client = client; handed = handed; closes = closes }))
+  pub caused : (input output : List ℕ) → AsksMem words input output → (client : Client S K C) → HandsOut input output client held_before held_now → new.faults ≡ old.faults → (end : End) → ClosesOne members client before now end → HasCause members words old new held_before held_now before now (status_by end)
+  caused input output asked client handed quiet Read closes = record { input = input; output = output; asked = asked; client = client; handed = handed; quiet = quiet; closes = closes }
+  caused input output asked client handed quiet SourceFault closes = ((input, output, asked), inr (inl (record { input = input; output = output; asked = asked; client = client; handed = handed; quiet = quiet; closes = closes })))
+  caused input output asked client handed quiet SinkFault closes = ((input, output, asked), inr (inr (record { input = input; output = output; asked = asked; client = client; handed = handed; quiet = quiet; closes = closes })))
+  caused input output asked client handed quiet Memory closes = ((input, output, asked), inr (record { input = input; output = output; asked = asked; client = client; handed = handed; quiet = quiet; closes = closes }))

@@ -70,13 +70,14 @@ pub record ClosesOne {S K C : Type 0} (members : Devices S K C) (client : Client
   pub cause : HasEnded (closed_by members finished report) end
 
 module _ {S K C : Type 0} (members : Devices S K C) (words : List Word) (old new : Health) (held_before held_now : Option (List (Held S K C))) (before now : List Closed) where
-  -- The first client of the two names was handed out, served until its session ended so, and closed.
+  -- The first client of the two names was handed out, served until its session ended so, and closed. The desk met no fault.
   pub record ServedOne (end : End) : Type 0 where
     pub input : List ℕ
     pub output : List ℕ
     pub asked : AsksMem words input output
     pub client : Client S K C
     pub handed : HandsOut input output client held_before held_now
+    pub quiet : new.faults ≡ old.faults
     pub closes : ClosesOne members client before now end
 
   -- A device failed: the desk, whose count rose and which opened nothing, or the client's source or sink.

@@ -95,6 +95,7 @@ fn serve_client<K: Desk>(
         K.Sink.written K.Sink.health K.Clock.moments) client (K.closed desk.old) (K.closed desk.new) end }
     ensures steady { IsTrue (is_steady K.Source.health K.Sink.health client) → result ≢ Status.Fault }
     ensures held { K.held desk.new ≡ K.held desk.old }
+    ensures health { K.health desk.new ≡ K.health desk.old }
     ensures out { K.out desk.new + 1 ≡ K.out desk.old }
 {
     let Client {

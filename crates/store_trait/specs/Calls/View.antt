@@ -1,5 +1,5 @@
 -- What does a view of a store show, when is it refused, and what does its end leave?
-use Rattle.std.specs.Prelude.{◌≡◌, ◌≢◌, ℕ, ◌≤◌, Bool, false, ◌==◌, IsTrue, List, [], ◌∷◌, All, IsSome, None, ⊤, Result, IsErrOf, if◌then◌else◌}
+use Rattle.std.specs.Prelude.{◌≡◌, ◌≢◌, ℕ, ◌≤◌, Bool, false, ◌==◌, IsTrue, List, [], ◌∷◌, length, All, IsSome, None, ⊤, Result, IsErrOf, if◌then◌else◌}
 use Rattle.shard_disk.specs.Health.{Health, Failed, Rose}
 use Rattle.tsdb_types.specs.Moments.{IsMoment}
 use Rattle.point_model.specs.declared.need.Need.{Need}
@@ -22,9 +22,9 @@ pub record Begins (need : Need) (shown : Shown) (loan : ℕ) (can_be_damaged : B
   pub unlimited_is_whole : new.limits ≡ None → can_be_damaged ≡ false
 
 -- Why a view was refused, by what the store tells afterwards and by its health before and after. So many views are out only
--- where one of this store is; want of memory may come anywhere, and no device has failed then.
+-- where one of this store is, and they are its own; want of memory may come anywhere.
 abbrev pub ViewHasCause : Told → Health → Health → ViewFault → Type 0
-ViewHasCause told old new (fault.TooManyViews out) = IsSome told.limits × (told.out ≢ [])
+ViewHasCause told old new (fault.TooManyViews out) = IsSome told.limits × (told.out ≢ []) × (out ≡ length told.out)
 ViewHasCause told old new fault.Memory = ⊤
 ViewHasCause told old new fault.Fault = Failed old new
 

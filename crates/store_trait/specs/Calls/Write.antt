@@ -1,5 +1,5 @@
 -- When is a batch accepted by a store, and when refused?
-use Rattle.std.specs.Prelude.{◌≡◌, ◌↔◌, ℕ, ◌+◌, ◌<◌, ◌≤◌, IsTrue, List, [], ◌∷◌, ◌++◌, length, Any, Contains, Some, ⊤, IfSome, IsSomeAnd, Result, IsErrOf}
+use Rattle.std.specs.Prelude.{◌≡◌, ◌⊎◌, ◌↔◌, ℕ, ◌+◌, ◌<◌, ◌≤◌, IsTrue, List, [], ◌∷◌, ◌++◌, length, Any, Contains, Some, ⊤, IfSome, IsSomeAnd, Result, IsErrOf}
 use Rattle.std.specs.List.{IsDistinct}
 use Rattle.std.specs.Str.{bytes_eq}
 use Rattle.shard_disk.specs.Health.{Health, Failed}
@@ -57,12 +57,19 @@ pub record PassesSeries (points : List Point) (held : ℕ) (most_held : ℕ) (hi
   pub are_held : held ≤ most_held
   pub passes : limits.most_series < held + length new
 
--- So many series are held, no fewer than at the start, that the batch's new ones are within the limit.
+-- The series that the start or the history has, each once.
+pub record AreKnown (limits : Limits) (history : List Entry) (series : List (List ℕ)) : Type 0 where
+  pub distinct : IsDistinct bytes_eq series
+  pub exact : (text : List ℕ) → Contains series text ↔ (Contains limits.series text ⊎ Any (WritesSeries text) history)
+
+-- So many series are held, no fewer than start and history have, that the batch's new ones are within the limit.
 pub record FitsSeries (points : List Point) (told : Told) (limits : Limits) : Type 0 where
   pub held : ℕ
+  pub known : List (List ℕ)
   pub new : List (List ℕ)
+  pub are_known : AreKnown limits told.history known
   pub are_new : AreNew points limits told.history new
-  pub no_fewer : length limits.series ≤ held
+  pub no_fewer : length known ≤ held
   pub are_held : held ≤ told.series
   pub fits : held + length new ≤ limits.most_series
 

@@ -1,5 +1,6 @@
 -- The client that was handed out was served and closed.
-use Rattle.std.proofs.Common.{List, sym, subst}
+use Rattle.std.proofs.Common.{◌∙◌, ap, refl, List, sym, subst}
+use Rattle.shard_disk.specs.Health.{Health}
 use Rattle.session_io.specs.Clients.{Closed, HandsOut}
 use Rattle.tsm_server.specs.Outcomes.{devices, ClosesOne, HasCause}
 use Rattle.tsm_server.proofs.Causes.{caused}
@@ -16,4 +17,5 @@ returns-in-Ok-clause-cause g c = λ words asked.
     subst (HasCause members words (g.K.Desk.health c.args.desk.now) (g.K.Desk.health c.serve_client.new.desk) (g.K.Desk.held c.args.desk.now)
     (g.K.Desk.held c.serve_client.new.desk) (g.K.Desk.closed c.args.desk.now) now) (sym served.1)
     (caused members words (g.K.Desk.health c.args.desk.now) (g.K.Desk.health c.serve_client.new.desk) (g.K.Desk.held c.args.desk.now)
-    (g.K.Desk.held c.serve_client.new.desk) (g.K.Desk.closed c.args.desk.now) now c.args.input.now c.args.output.now asked c.in-Ok.client handed served.0 closes)
+    (g.K.Desk.held c.serve_client.new.desk) (g.K.Desk.closed c.args.desk.now) now c.args.input.now c.args.output.now asked c.in-Ok.client handed
+    (ap (λ (h : Health). h.faults) c.serve_client.ensures.health ∙ c.in-Ok.ensures.fault.ok refl) served.0 closes)
