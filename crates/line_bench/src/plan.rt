@@ -1,17 +1,20 @@
+use crate::long::Long;
 use anyhow::{Context, Result};
 use std::env;
 use std::rt::Env;
 use std::time::{CpuClock, Duration};
 
-/// How often each batch is read, and whether the rates are told.
+/// How often each batch is read, and whether the rates are told; and the long lines that are read in place of the batches.
 #[derive(Clone, Copy)]
 pub struct Plan {
     pub rounds: u64,
     pub rates: bool,
+    pub long: Option<Long>,
+    pub lines: u32,
 }
 
 impl Plan {
-    /// One round, or as many as the first argument says.
+    /// One round, or as many as the first argument says; behind it the name of long lines and their number.
     pub fn read(rt: &(impl Env + AllocGlobal)) -> Result<Plan> {
         let mut args = env::args(rt)?;
         let _program = args.next();
@@ -19,15 +22,23 @@ impl Plan {
             None => Ok(Plan {
                 rounds: 1,
                 rates: false,
+                long: None,
+                lines: 0,
             }),
             Some(text) => {
                 let rounds = text
                     .as_str()
                     .parse::<u64>()
                     .context("the rounds are no number")?;
+                let long = args.next().and_then(|name| Long::named(name.as_str()));
+                let lines = args
+                    .next()
+                    .and_then(|count| count.as_str().parse::<u32>().ok());
                 Ok(Plan {
                     rounds,
                     rates: true,
+                    long,
+                    lines: lines.unwrap_or(1),
                 })
             }
         }

@@ -1,3 +1,4 @@
+use crate::long::Long;
 use crate::plan::Plan;
 use crate::shape::Shape;
 use anyhow::Result;
@@ -25,6 +26,24 @@ pub fn run<R: Print + Eprint + CpuClock + AllocGlobal>(
     let name = shape.name();
     let len = text.len();
     println!(rt; "{name}: {points} points in {len} bytes")?;
+    Ok(())
+}
+
+/// Reads long lines as often as the plan says.
+pub fn run_long<R: Print + Eprint + CpuClock + AllocGlobal>(
+    rt: &R,
+    plan: Plan,
+    long: Long,
+) -> Result<()> {
+    let text = long.text(rt.alloc(), plan.lines)?;
+    let start = rt.process_cpu_time()?;
+    let mut points = 0;
+    for _ in 0..plan.rounds {
+        points = count(rt.alloc(), text.as_str())?;
+    }
+    plan.tell(rt, "long lines", plan.lines, start)?;
+    let len = text.len();
+    println!(rt; "long lines: {points} points in {len} bytes")?;
     Ok(())
 }
 

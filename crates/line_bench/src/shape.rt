@@ -9,6 +9,8 @@ pub enum Shape {
     OneTag,
     /// The same tag on every line.
     SameTag,
+    /// A hundred series in turn.
+    InTurn,
     /// Three tags and three fields of three kinds, each line another series.
     ThreeTags,
     /// Three tags that don't ascend, each line another series.
@@ -20,10 +22,11 @@ pub enum Shape {
 }
 
 impl Shape {
-    pub const ALL: [Shape; 7] = [
+    pub const ALL: [Shape; 8] = [
         Shape::OneSeries,
         Shape::OneTag,
         Shape::SameTag,
+        Shape::InTurn,
         Shape::ThreeTags,
         Shape::Unordered,
         Shape::Escapes,
@@ -36,6 +39,7 @@ impl Shape {
             Shape::OneSeries => "one series",
             Shape::OneTag => "one tag, each another series",
             Shape::SameTag => "one tag, one series",
+            Shape::InTurn => "one tag, a hundred series in turn",
             Shape::ThreeTags => "three tags and three fields",
             Shape::Unordered => "three tags out of order",
             Shape::Escapes => "escapes",
@@ -49,6 +53,10 @@ impl Shape {
             Shape::OneSeries => format!(in alloc; "cpu v={k}i {k}\n"),
             Shape::OneTag => format!(in alloc; "cpu,host=h{k} v=1i 1609459200000000000\n"),
             Shape::SameTag => format!(in alloc; "cpu,host=h17 v=1i 1609459200000000000\n"),
+            Shape::InTurn => {
+                let host = k % 100;
+                format!(in alloc; "cpu,host=h{host} v={k}i {k}\n")
+            }
             Shape::ThreeTags => {
                 format!(in alloc; "cpu,dc=a,host=h{k},rack=r7 busy={k}i,free={k}u,up=true {k}\n")
             }
