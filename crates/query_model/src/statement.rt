@@ -1,0 +1,10 @@
+use crate::{Select, Show};
+use point_model::Deletion;
+
+/// What a line asks for that is no request of another form. DROP SERIES and DROP MEASUREMENT are deletions of all times.
+#[derive(Drop)]
+pub enum Statement {
+    Select(Select),
+    Show(Show),
+    Delete(Deletion),
+}
