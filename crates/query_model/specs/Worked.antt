@@ -22,7 +22,7 @@ use Rattle.query_model.specs.declared.tables.Shown.TheVariants as shown
 use Rattle.query_model.specs.declared.tables.Table.{Table}
 use Rattle.query_model.specs.declared.tables.TagText.{TagText}
 use Rattle.query_model.specs.Answers.{rows, tables, refused}
-use Rattle.query_model.specs.Conditions.{True, Compare}
+use Rattle.query_model.specs.Conditions.{True, Compare, Or}
 use Rattle.query_model.specs.Lists.{lists_of}
 use Rattle.query_model.specs.Refusals.{bad_argument, sum_range}
 
@@ -142,6 +142,53 @@ sum_of_truths = select_of (items.Agg (call_of agg.Sum (codes "on") ∷ []))
 abbrev pub list : List (List ℕ) → List (List ℕ) → HeadedList
 list head lines = record { head = head; lines = lines }
 
+-- `SELECT * FROM cpu GROUP BY *`
+abbrev pub all_by_all : Select
+all_by_all = record (select_of items.Star) { all_tags = true }
+
+-- `SELECT v FROM cpu GROUP BY host OFFSET 1 SLIMIT 1`
+abbrev pub second_rows : Select
+second_rows = record (select_of (items.Raw (raw (codes "v") ∷ []))) { tags = codes "host" ∷ []; offset = 1; slimit = 1 }
+
+-- `SELECT count(v), last(v) FROM cpu WHERE time >= 10 AND time <= 30 GROUP BY time(20ns, 15ns) FILL(none)`
+abbrev pub moved_windows : Select
+moved_windows = record (select_of (items.Agg (call_of agg.Count (codes "v") ∷ call_of agg.Last (codes "v") ∷ []))) {
+  lower = Some (pos 10);
+  upper = Some (pos 30);
+  windows = Some (pos 20, pos 15);
+  fill = fill.None;
+}
+
+-- `SELECT count(v), min(v) FROM cpu WHERE time >= 0 AND time <= 25 GROUP BY time(10ns) FILL(7)`
+abbrev pub sevens : Select
+sevens = record (select_of (items.Agg (call_of agg.Count (codes "v") ∷ call_of agg.Min (codes "v") ∷ []))) {
+  lower = Some (pos 0);
+  upper = Some (pos 25);
+  windows = Some (pos 10, pos 0);
+  fill = fill.Number (pos 7);
+}
+
+-- `SELECT cumulative_sum(v) FROM cpu`
+abbrev pub sums_up_to : Select
+sums_up_to = select_of (items.Trans (record { call = trans.CumulativeSum; field = codes "v"; alias = None }))
+
+-- `SELECT elapsed(v, 3ns) FROM cpu`
+abbrev pub times_between : Select
+times_between = select_of (items.Trans (record { call = trans.Elapsed (pos 3); field = codes "v"; alias = None }))
+
+-- `SELECT spread(v), count(v) FROM cpu WHERE host = 'a' OR v = 2`
+abbrev pub spread_of_both : Select
+spread_of_both = record (select_of (items.Agg (call_of agg.Spread (codes "v") ∷ call_of agg.Count (codes "v") ∷ []))) {
+  cond = Or (Compare (codes "host") op.Eq (literal.Text (codes "a"))) (Compare (codes "v") op.Eq (literal.Int (pos 2)));
+}
+
+-- `SELECT v FROM mem WHERE v > -1`
+abbrev pub above_a_negative : Select
+above_a_negative = record (select_of (items.Raw (raw (codes "v") ∷ []))) {
+  measurement = codes "mem";
+  cond = Compare (codes "v") op.Gt (literal.Int (negsuc 0));
+}
+
 -- what each of them answers
 pub record WorkedRows : Type 0 where
   pub last_row : rows three_points last_row ≡ tables (table [] (codes "v" ∷ codes "host" ∷ []) (row (pos 30) (integer (pos 4) ∷ shown.Tag (codes "a") ∷ []) ∷ []) ∷ [])
@@ -167,3 +214,24 @@ pub record WorkedRows : Type 0 where
       ≡ list (codes "name: cpu" ∷ codes "fieldKey fieldType" ∷ []) (codes "on boolean" ∷ [])
       ∷ list (codes "name: mem" ∷ codes "fieldKey fieldType" ∷ []) (codes "v unsigned" ∷ []) ∷ []
   pub series_of_none : lists_of three_points (show.Series (Some (codes "mem"))) ≡ []
+  pub star : rows three_points all_by_all ≡ tables
+      (table (record { key = codes "host"; value = codes "a" } ∷ []) (codes "v" ∷ [])
+      (row (pos 10) (integer (pos 1) ∷ []) ∷ row (pos 30) (integer (pos 4) ∷ []) ∷ [])
+      ∷ table (record { key = codes "host"; value = codes "b" } ∷ []) (codes "v" ∷ []) (row (pos 20) (integer (pos 2) ∷ []) ∷ []) ∷ [])
+  pub offset : rows three_points second_rows ≡ tables
+      (table (record { key = codes "host"; value = codes "a" } ∷ []) (codes "v" ∷ []) (row (pos 30) (integer (pos 4) ∷ []) ∷ []) ∷ [])
+  pub moved : rows three_points moved_windows ≡ tables (table [] (codes "count" ∷ codes "last" ∷ [])
+      (row (negsuc 4) (integer (pos 1) ∷ integer (pos 1) ∷ []) ∷ row (pos 15) (integer (pos 2) ∷ integer (pos 4) ∷ []) ∷ []) ∷ [])
+  pub number : rows three_points sevens ≡ tables (table [] (codes "count" ∷ codes "min" ∷ [])
+      (row (pos 0) (integer (pos 7) ∷ integer (pos 7) ∷ []) ∷ row (pos 10) (integer (pos 1) ∷ integer (pos 1) ∷ [])
+      ∷ row (pos 20) (integer (pos 1) ∷ integer (pos 2) ∷ []) ∷ []) ∷ [])
+  pub turned_when_filled : rows three_points (record sums_of_a { descending = true; limit = 2 }) ≡ tables (table [] (codes "sum" ∷ [])
+      (row (pos 50) (integer (pos 4) ∷ []) ∷ row (pos 40) (integer (pos 4) ∷ []) ∷ []) ∷ [])
+  pub cumulative_sum : rows three_points sums_up_to ≡ tables (table [] (codes "cumulative_sum" ∷ [])
+      (row (pos 10) (integer (pos 1) ∷ []) ∷ row (pos 20) (integer (pos 3) ∷ []) ∷ row (pos 30) (integer (pos 7) ∷ []) ∷ []) ∷ [])
+  pub elapsed : rows three_points times_between ≡ tables (table [] (codes "elapsed" ∷ [])
+      (row (pos 20) (integer (pos 3) ∷ []) ∷ row (pos 30) (integer (pos 3) ∷ []) ∷ []) ∷ [])
+  pub spread : rows three_points spread_of_both ≡ tables (table [] (codes "spread" ∷ codes "count" ∷ [])
+      (row (pos 0) (integer (pos 3) ∷ integer (pos 3) ∷ []) ∷ []) ∷ [])
+  pub unsigned : rows other_points above_a_negative ≡ tables
+      (record (table [] (codes "v" ∷ []) (row (pos 2) (shown.Value (value.Uint 1) ∷ []) ∷ [])) { measurement = codes "mem" } ∷ [])

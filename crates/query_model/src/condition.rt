@@ -30,6 +30,7 @@ pub enum CondTest {
 /// A part of a condition.
 #[derive(Drop)]
 pub enum CondPart {
+    /// It is met or not by itself.
     Test(CondTest),
     /// Its two sides stand before it.
     Join(Join),
@@ -55,11 +56,13 @@ pub enum Op {
 /// What a name is compared with.
 #[derive(Drop)]
 pub enum Literal {
+    /// A text, which only tags are compared with.
     Text(TagText),
     /// A number up to 9223372036854775807.
     Int(i64),
     /// A number above that.
     Uint(u64),
+    /// A truth, which is compared for equality alone.
     Bool(bool),
 }
 

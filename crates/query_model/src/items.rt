@@ -85,12 +85,14 @@ impl Model for RawItems {
 impl RawItems {
     ghost use Rattle.std.specs.Prelude.{◌≡◌};
 
+    /// The list of these.
     pub fn new(items: Vec<RawItem>) -> RawItems
         ensures { result ≡ items.items }
     {
         RawItems { items }
     }
 
+    /// The list that it was made of.
     pub fn as_slice(&self) -> &[RawItem]
         ensures { result.now ≡ self.now }
     {
@@ -116,12 +118,14 @@ impl Model for AggItems {
 impl AggItems {
     ghost use Rattle.std.specs.Prelude.{◌≡◌};
 
+    /// The list of these.
     pub fn new(items: Vec<AggItem>) -> AggItems
         ensures { result ≡ items.items }
     {
         AggItems { items }
     }
 
+    /// The list that it was made of.
     pub fn as_slice(&self) -> &[AggItem]
         ensures { result.now ≡ self.now }
     {

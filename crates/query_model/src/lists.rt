@@ -4,6 +4,7 @@ use std::marker::Model;
 /// The answer to a SHOW.
 #[derive(Drop)]
 pub enum Listing {
+    /// Lists of lines under their headings.
     Texts(HeadedLists),
     /// The answer to SHOW FILES alone.
     Files(FileLines),
@@ -19,6 +20,7 @@ pub struct HeadedList {
 /// What is shown of a file.
 #[derive(Clone, Copy, PartialEq, Eq)]
 pub struct FileLine {
+    /// The generation, and the place within it.
     pub generation: u64,
     pub sequence: u32,
     /// 1 to 4.
@@ -45,12 +47,14 @@ impl Model for HeadedLists {
 impl HeadedLists {
     ghost use Rattle.std.specs.Prelude.{◌≡◌};
 
+    /// The list of these.
     pub fn new(lists: Vec<HeadedList>) -> HeadedLists
         ensures { result ≡ lists.items }
     {
         HeadedLists { lists }
     }
 
+    /// The list that it was made of.
     pub fn as_slice(&self) -> &[HeadedList]
         ensures { result.now ≡ self.now }
     {
@@ -76,12 +80,14 @@ impl Model for FileLines {
 impl FileLines {
     ghost use Rattle.std.specs.Prelude.{◌≡◌};
 
+    /// The list of these.
     pub fn new(files: Vec<FileLine>) -> FileLines
         ensures { result ≡ files.items }
     {
         FileLines { files }
     }
 
+    /// The list that it was made of.
     pub fn as_slice(&self) -> &[FileLine]
         ensures { result.now ≡ self.now }
     {

@@ -35,7 +35,9 @@ pub struct Row {
 /// What a cell shows.
 #[derive(Drop)]
 pub enum Shown {
+    /// The row has no value there.
     Absent,
+    /// The value of a field, or what was made of values.
     Value(Value),
     /// The value of a tag, unescaped and not empty.
     Tag(point_model::TagText),
@@ -59,12 +61,14 @@ impl Model for TableList {
 impl TableList {
     ghost use Rattle.std.specs.Prelude.{◌≡◌};
 
+    /// The list of these.
     pub fn new(tables: Vec<Table>) -> TableList
         ensures { result ≡ tables.items }
     {
         TableList { tables }
     }
 
+    /// The list that it was made of.
     pub fn as_slice(&self) -> &[Table]
         ensures { result.now ≡ self.now }
     {
@@ -90,12 +94,14 @@ impl Model for TagTexts {
 impl TagTexts {
     ghost use Rattle.std.specs.Prelude.{◌≡◌};
 
+    /// The list of these.
     pub fn new(tags: Vec<TagText>) -> TagTexts
         ensures { result ≡ tags.items }
     {
         TagTexts { tags }
     }
 
+    /// The list that it was made of.
     pub fn as_slice(&self) -> &[TagText]
         ensures { result.now ≡ self.now }
     {
@@ -120,12 +126,14 @@ impl Model for Columns {
 impl Columns {
     ghost use Rattle.std.specs.Prelude.{◌≡◌, map, string_bytes};
 
+    /// The list of these.
     pub fn new(names: Vec<String>) -> Columns
         ensures { result ≡ map string_bytes names.items }
     {
         Columns { names }
     }
 
+    /// The list that it was made of.
     pub fn as_slice(&self) -> &[String]
         ensures { map string_bytes result.now ≡ self.now }
     {
@@ -151,12 +159,14 @@ impl Model for Rows {
 impl Rows {
     ghost use Rattle.std.specs.Prelude.{◌≡◌};
 
+    /// The list of these.
     pub fn new(rows: Vec<Row>) -> Rows
         ensures { result ≡ rows.items }
     {
         Rows { rows }
     }
 
+    /// The list that it was made of.
     pub fn as_slice(&self) -> &[Row]
         ensures { result.now ≡ self.now }
     {
@@ -182,12 +192,14 @@ impl Model for Cells {
 impl Cells {
     ghost use Rattle.std.specs.Prelude.{◌≡◌};
 
+    /// The list of these.
     pub fn new(cells: Vec<Shown>) -> Cells
         ensures { result ≡ cells.items }
     {
         Cells { cells }
     }
 
+    /// The list that it was made of.
     pub fn as_slice(&self) -> &[Shown]
         ensures { result.now ≡ self.now }
     {

@@ -23,4 +23,13 @@ returns c = record {
   dash_is_told_apart = refl;
   field_keys = refl;
   series_of_none = refl;
+  star = refl;
+  offset = refl;
+  moved = refl;
+  number = refl;
+  turned_when_filled = refl;
+  cumulative_sum = refl;
+  elapsed = refl;
+  spread = refl;
+  unsigned = refl;
 }
