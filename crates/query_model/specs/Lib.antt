@@ -1,0 +1,16 @@
+pub mod Records
+pub mod Conditions
+pub mod Flat
+pub mod ConditionCode
+pub mod Selected
+pub mod Columns
+pub mod Exact
+pub mod Aggregates
+pub mod Windows
+pub mod Transformations
+pub mod Tables
+pub mod Refusals
+pub mod Answers
+pub mod Lists
+pub mod Worked
+pub mod Laws
