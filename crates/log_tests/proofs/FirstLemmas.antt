@@ -1,5 +1,5 @@
 -- The first edit of a directory may follow.
-use Rattle.std.proofs.Common.{◌≡◌, ℕ, List, [], ◌∷◌, ◌++◌, length, refl, sym, ap, ◌∙◌, arith, None}
+use Rattle.std.proofs.Common.{◌≡◌, ℕ, List, [], ◌∷◌, ◌++◌, length, refl, sym, ap, subst, ◌∙◌, arith, None}
 use Rattle.std.specs.List.{IsDistinct}
 use Rattle.std.specs.FinMap.{keys, entries, empty, len, len-empty, len-entries}
 use Rattle.std.specs.Ordering.{nat_cmp}
@@ -27,6 +27,9 @@ writable = record {
   room = (omega arith, (omega arith, tt));
   short = omega (arith, length-append (bytes_of_u32 2) (1 ∷ (bytes_of_u32 1 ++ (6 ∷ (bytes_of_u64 0 ++ [])))), length-append (bytes_of_u32 1) (6 ∷ (bytes_of_u64 0 ++ [])), length-append (bytes_of_u64 0) [], length-u32 2, length-u32 1, length-u64 0);
 }
+
+pub first_writable : (changes : List Change) → changes ≡ AddSegment 1 ∷ SetFloor 0 ∷ [] → IsWritable changes
+first_writable changes is = subst IsWritable (sym is) writable
 
 sound : IsSound (record nothing { segments = 1 ∷ [] })
 unfolding IsDistinct
