@@ -1,6 +1,5 @@
 //! Runs of the program over desks in memory.
 mod faults;
-mod host;
 mod rows;
 
 use crate::{OpenGate, tsmd};

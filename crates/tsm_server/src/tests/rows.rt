@@ -1,17 +1,13 @@
 //! What requests and words are answered.
-use super::{desk, desk_at, run};
+use super::{Outcome, desk, desk_at, run};
 use std::alloc::{AllocError, Global};
 use std::test::Fail;
 use tsdb_types::Time;
 
-/// This input is read to its end, and its requests are given these replies.
-fn answers(rt: &HostRuntime, input: &str, replies: &str) -> Result<(), Fail> {
+/// What the program leaves of this input.
+fn served(rt: &HostRuntime, input: &str) -> Result<Outcome, AllocError> {
     let desk = desk(rt.alloc(), input, &[], &[])?;
-    let outcome = run(rt, &["mem", "in", "out"], desk)?;
-    assert_eq!(rt; outcome.replies.as_str(), replies);
-    assert_eq!(rt; outcome.printed.as_str(), "");
-    assert_eq!(rt; outcome.status, 0);
-    Ok(())
+    run(rt, &["mem", "in", "out"], desk)
 }
 
 #[test]
@@ -36,7 +32,10 @@ fn requests_are_answered(rt: HostRuntime) -> Result<(), Fail> {
         ),
     ];
     for (input, replies) in &rows {
-        answers(&rt, input, replies)?;
+        let outcome = served(&rt, input)?;
+        assert_eq!(rt; outcome.replies.as_str(), *replies);
+        assert_eq!(rt; outcome.printed.as_str(), "");
+        assert_eq!(rt; outcome.status, 0);
     }
     Ok(())
 }
@@ -66,7 +65,10 @@ fn writes_are_refused_by_their_cause(rt: HostRuntime) -> Result<(), Fail> {
         ),
     ];
     for (input, replies) in &rows {
-        answers(&rt, input, replies)?;
+        let outcome = served(&rt, input)?;
+        assert_eq!(rt; outcome.replies.as_str(), *replies);
+        assert_eq!(rt; outcome.printed.as_str(), "");
+        assert_eq!(rt; outcome.status, 0);
     }
     Ok(())
 }
@@ -107,7 +109,10 @@ fn a_batch_is_one_request(rt: HostRuntime) -> Result<(), Fail> {
         ),
     ];
     for (input, replies) in &rows {
-        answers(&rt, input, replies)?;
+        let outcome = served(&rt, input)?;
+        assert_eq!(rt; outcome.replies.as_str(), *replies);
+        assert_eq!(rt; outcome.printed.as_str(), "");
+        assert_eq!(rt; outcome.status, 0);
     }
     Ok(())
 }
@@ -148,7 +153,9 @@ fn limits_are_exact(rt: HostRuntime) -> Result<(), Fail> {
         ),
     ];
     for (input, replies) in &rows {
-        answers(&rt, input.as_str(), replies)?;
+        let outcome = served(&rt, input.as_str())?;
+        assert_eq!(rt; outcome.replies.as_str(), *replies);
+        assert_eq!(rt; outcome.status, 0);
     }
     Ok(())
 }
