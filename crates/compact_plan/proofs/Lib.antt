@@ -1,4 +1,3 @@
 pub mod LawLemmas
 pub mod MergeLemmas
 pub mod PlanLemmas
-pub mod TableLemmas

@@ -11,5 +11,3 @@ pub use group::Group;
 pub use merged::{Merged, after_merge};
 pub use plan::{one_plan, plan_full, plan_level};
 
-#[cfg(test)]
-mod tests;

@@ -17,5 +17,3 @@ pub use hold::Hold;
 pub use row::FileRow;
 pub use table::FileTable;
 
-#[cfg(test)]
-mod tests;

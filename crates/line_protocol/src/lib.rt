@@ -16,8 +16,6 @@ mod place;
 mod points;
 mod sorted;
 mod spelled_field;
-#[cfg(test)]
-mod tests;
 mod value;
 mod walk;
 

@@ -17,5 +17,3 @@ pub use read::read_v2;
 pub use set::TombSet;
 pub use write::write_v2;
 
-#[cfg(test)]
-mod tests;

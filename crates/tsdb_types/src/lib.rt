@@ -12,8 +12,6 @@ mod seed;
 mod series;
 mod spelled;
 mod tag;
-#[cfg(test)]
-mod tests;
 mod time;
 mod value;
 

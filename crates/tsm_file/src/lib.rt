@@ -19,7 +19,3 @@ pub use index::TsmIndex;
 pub use laws::files_are_read_back;
 pub use writer::TsmWriter;
 
-#[cfg(test)]
-mod tests;
-#[cfg(test)]
-mod writer_tests;

@@ -19,5 +19,3 @@ pub use read::read_index;
 pub use row::KeyRow;
 pub use write::write_index;
 
-#[cfg(test)]
-mod tests;
