@@ -10,4 +10,3 @@ mod window;
 pub use group::Group;
 pub use merged::{Merged, after_merge};
 pub use plan::{one_plan, plan_full, plan_level};
-

@@ -16,4 +16,3 @@ pub use condemned::Condemned;
 pub use hold::Hold;
 pub use row::FileRow;
 pub use table::FileTable;
-

@@ -1,7 +1,7 @@
-use tsm_format::{HEADER, index_place, read_index, write_index};
 use shard_disk::{Damage, FormatFault, Why};
 use std::alloc::Global;
 use std::test::Fail;
+use tsm_format::{HEADER, index_place, read_index, write_index};
 
 // The index of the key `cpu#!~#v` with one block of 28 bytes from 10 to 30, byte by byte.
 const INDEX: [u8; 41] = [

@@ -1,7 +1,7 @@
-use tombstones::{TombSet, read_v2, write_v2};
 use shard_disk::{Damage, FormatFault, Why};
 use std::alloc::{AllocError, Global};
 use std::test::Fail;
+use tombstones::{TombSet, read_v2, write_v2};
 use tsdb_types::Time;
 
 fn at(number: i64) -> Time {

@@ -2,7 +2,6 @@ ghost use Rattle.std.specs.Prelude.{◌≡◌, ◌≢◌, All, OnOk};
 ghost use Rattle.shard_disk.specs.Stage.{Finished, Refused};
 ghost use Rattle.tsm_file.specs.ReadBlocks.{IsWithin};
 
-use tsm_file::{TsmCursor, TsmIndex};
 use mem_disk::{Fail, MemDisk, MemReader};
 use point_model::CursorFault;
 use shard_disk::{Damage, Disk, Trouble, Why, Writer};
@@ -10,6 +9,7 @@ use std::alloc::{AllocError, Global};
 use std::test::Fail as Failed;
 use tombstones::TombSet;
 use tsdb_types::{Time, Value};
+use tsm_file::{TsmCursor, TsmIndex};
 
 // The key `cpu#!~#v` with the points (10, 1), (20, 1) and (30, 1), byte by byte. The checksum at 5 is zlib's.
 const FILE: [u8; 82] = [

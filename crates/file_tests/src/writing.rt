@@ -3,12 +3,12 @@ ghost use Rattle.tsdb_types.specs.Keys.{MarkAt};
 ghost use Rattle.tsm_format.specs.Rows.{IsAbove};
 ghost use Rattle.tsm_file.specs.Tried.{HasPushed};
 
-use tsm_file::{TsmFacts, TsmWriter};
 use mem_disk::{Fail, MemDisk};
 use shard_disk::{Disk, Trouble, Writer};
 use std::alloc::{AllocError, Global};
 use std::test::Fail as Failed;
 use tsdb_types::{Time, Value};
+use tsm_file::{TsmFacts, TsmWriter};
 
 // The key `cpu#!~#v` with the points (10, 1), (20, 1) and (30, 1), byte by byte. The checksum at 5 is zlib's.
 const FILE: [u8; 82] = [

@@ -7,4 +7,3 @@ mod overlay;
 
 pub use laws::{one_overlay, overlays_nest, steps_give_overlay};
 pub use overlay::Overlay;
-

@@ -1,9 +1,9 @@
+use std::alloc::Global;
+use std::process::Abort;
 use tsdb_types::{
     Batch, Cell, KeyFault, Name, Point, Seed, SeriesFault, SeriesKey, Tag, Tags, Time, Value,
     composite, split,
 };
-use std::alloc::Global;
-use std::process::Abort;
 
 fn name(rt: &impl Abort, alloc: Global, text: &str) -> Name {
     Name::new(alloc, text).expect(rt, "a name")

@@ -16,4 +16,3 @@ pub use range::TombRange;
 pub use read::read_v2;
 pub use set::TombSet;
 pub use write::write_v2;
-

@@ -18,4 +18,3 @@ pub use facts::TsmFacts;
 pub use index::TsmIndex;
 pub use laws::files_are_read_back;
 pub use writer::TsmWriter;
-

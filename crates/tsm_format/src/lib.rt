@@ -18,4 +18,3 @@ pub use key::Key;
 pub use read::read_index;
 pub use row::KeyRow;
 pub use write::write_index;
-
