@@ -1,5 +1,5 @@
 -- Bodies that follow one another lead to one state, and one of them is named at most.
-use Rattle.std.proofs.Common.{◌≡◌, ◌⊎◌, inl, inr, ⊎_elim, ℕ, List, [], ◌∷◌, ◌++◌, length, refl, sym, ◌∙◌, ap, subst}
+use Rattle.std.proofs.Common.{◌≡◌, inr, ⊎_elim, ℕ, List, [], ◌∷◌, ◌++◌, length, refl, sym, ◌∙◌, ap, subst}
 use Rattle.shard_disk.specs.declared.damage.Damage.{Damage}
 use Rattle.shard_disk.specs.declared.damage.Why.{Why}
 use Rattle.shard_disk.specs.Directory.{Directory, HasFile}

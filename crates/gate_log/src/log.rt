@@ -1,8 +1,7 @@
 ghost use Rattle.std.specs.Prelude.{◌≡◌, ◌≢◌, ◌↔◌, ◌+◌, ◌^◌, ◌<◌, ◌≤◌, ◌++◌, [], ◌∷◌, ℕ, List, length, Option, Some, None, IsTrue, IsOk, IfOk, IsErrOf, OnOk, OnErr};
 ghost use Rattle.shard_disk.specs.Crash.{Everywhere, Leaves};
 ghost use Rattle.shard_disk.specs.Directory.{Appears, ChangesAt, Ends, MadeOrNot};
-ghost use Rattle.shard_disk.specs.HandedOut.{SkipsNumbers};
-ghost use Rattle.shard_disk.specs.Health.{HasCause, Ages, Failed};
+ghost use Rattle.shard_disk.specs.Health.{HasCause};
 ghost use Rattle.shard_disk.specs.Stage.{Finished, Refused};
 ghost use Rattle.gate_log.specs.Records.{framed, IsGated, IsReady, Spells, WithAtMost, spelled};
 
@@ -31,7 +30,7 @@ pub struct Log {
 
 impl Log {
     ghost use Rattle.gate_log.specs.Calls.Append.{Adds, AddsNone, Appends, Opens};
-    ghost use Rattle.gate_log.specs.Calls.Make.{Makes};
+    ghost use Rattle.gate_log.specs.Calls.Make.{Makes, MakesNone};
     ghost use Rattle.gate_log.specs.Calls.Settle.{KeepsFile, Remains, Settles, Settling};
     ghost use Rattle.gate_log.specs.Log.{HasGate, IsInDoubt, IsPlaced, IsShutLog, Reaches, Stands, doubtful, file_of};
 
@@ -49,19 +48,19 @@ impl Log {
         self.gate == Gate::InDoubt
     }
 
-    /// A new log without a record, in a file of its own.
+    /// A new log without a record, in a file of its own. After want of memory nothing came of the call; after a fault a crash may
+    /// leave the file.
     pub fn make<D: Disk>(disk: &mut D) -> Result<Log, Trouble>
         ensures ok { IfOk result (λ log. Makes (IsTrue D.tells) log
             (D.files disk.old) (D.files disk.new) (D.crashes disk.new) (D.handed_out disk.old) (D.handed_out disk.new)) }
-        ensures refused { OnErr result (D.files disk.new ≡ D.files disk.old) }
-        ensures refused_number { OnErr result (SkipsNumbers (D.handed_out disk.old) (D.handed_out disk.new)) }
+        ensures refused { OnErr result (MakesNone (IsErrOf result Trouble.Memory)
+            (D.files disk.old) (D.files disk.new) (D.crashes disk.old) (D.crashes disk.new) (D.handed_out disk.old) (D.handed_out disk.new)) }
 
         // A crash at any moment of the call leaves the new file whole, or doesn't leave it.
         ensures crash { IsTrue D.tells → Leaves (ChangesAt (D.handed_out disk.old).next_number (MadeOrNot (Appears (0 ∷ []))))
             (D.crashes disk.old) (D.crashes disk.new) }
 
-        ensures ages { Ages (D.health disk.old) (D.health disk.new) }
-        ensures fault { IsErrOf result Trouble.Fault → Failed (D.health disk.old) (D.health disk.new) }
+        ensures fault { HasCause result (D.health disk.old) (D.health disk.new) }
     {
         let mut writer = disk.begin()?;
         if let Err(trouble) = fill(&mut writer) {
@@ -218,8 +217,7 @@ fn fill<W: Writer>(writer: &mut W) -> Result<(), Trouble>
     requires { W.stage writer.old ≢ Refused }
     ensures content { OnOk result (IsTrue W.tells → W.content writer.new ≡ W.content writer.old ++ 0 ∷ []) }
     ensures finished { OnOk result (W.stage writer.new ≡ Finished) }
-    ensures ages { Ages (W.health writer.old) (W.health writer.new) }
-    ensures fault { IsErrOf result Trouble.Fault → Failed (W.health writer.old) (W.health writer.new) }
+    ensures fault { HasCause result (W.health writer.old) (W.health writer.new) }
 {
     writer.append(&[0])?;
     writer.finish()?;

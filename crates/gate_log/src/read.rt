@@ -1,8 +1,8 @@
-ghost use Rattle.std.specs.Prelude.{◌≡◌, ◌≢◌, ◌⊎◌, List, ℕ, IsTrue, IfOk, IfErr, IsErrOf};
+ghost use Rattle.std.specs.Prelude.{◌≡◌, ◌≢◌, ◌⊎◌, List, ℕ, IsTrue, IfOk, IfErr};
 ghost use Rattle.shard_disk.specs.Crash.{Leaves, Same};
 ghost use Rattle.shard_disk.specs.Directory.{HasFile, IsPresent};
-ghost use Rattle.shard_disk.specs.Health.{Ages, Failed};
 ghost use Rattle.gate_log.specs.Damage.{TellsOf, bodies};
+ghost use Rattle.gate_log.specs.Faults.{LogHasCause};
 
 use crate::LogFault;
 use crate::decode::decode;
@@ -26,12 +26,11 @@ impl Log {
 
         // Damage is told where it stands.
         ensures damaged { IfErr result (λ fault. IsTrue D.tells → HasFile (D.files disk.old) no (TellsOf fault no)) }
-        ensures fault { IsErrOf result LogFault.Fault → Failed (D.health disk.old) (D.health disk.new) }
+        ensures fault { LogHasCause result (D.health disk.old) (D.health disk.new) }
 
         ensures files { D.files disk.new ≡ D.files disk.old }
         ensures crash { Leaves Same (D.crashes disk.old) (D.crashes disk.new) }
         ensures handed_out { D.handed_out disk.new ≡ D.handed_out disk.old }
-        ensures ages { Ages (D.health disk.old) (D.health disk.new) }
     {
         let bytes = bytes_of(alloc, disk, no)?;
         let (records, end) = decode(alloc, no, &bytes)?;
@@ -49,12 +48,11 @@ impl Log {
 fn bytes_of<D: Disk>(alloc: Global, disk: &mut D, no: u32) -> Result<Vec<u8>, LogFault>
     requires { IsTrue D.tells → IsPresent (D.files disk.old) no }
     ensures bytes { IfOk result (λ bytes. IsTrue D.tells → HasFile (D.files disk.old) no (λ file. bytes.items ≡ file)) }
-    ensures fault { IsErrOf result LogFault.Fault → Failed (D.health disk.old) (D.health disk.new) }
+    ensures fault { LogHasCause result (D.health disk.old) (D.health disk.new) }
     ensures undamaged { IfErr result (λ fault. (bytes : List ℕ) → TellsOf fault no bytes) }
     ensures files { D.files disk.new ≡ D.files disk.old }
     ensures crash { Leaves Same (D.crashes disk.old) (D.crashes disk.new) }
     ensures handed_out { D.handed_out disk.new ≡ D.handed_out disk.old }
-    ensures ages { Ages (D.health disk.old) (D.health disk.new) }
 {
     let len = disk.len(no)?;
     let mut bytes = vec![in alloc; 0; len as usize]?;

@@ -1,9 +1,9 @@
-ghost use Rattle.std.specs.Prelude.{◌≡◌, ◌↔◌, ◌≤◌, ◌++◌, ℕ, [], length, slice_get, option_copied, Some, Err, IsTrue, IfOk, IfNone, IsErrOf, OnOk, OnErr};
+ghost use Rattle.std.specs.Prelude.{◌≡◌, ◌↔◌, ◌≤◌, ◌++◌, ℕ, [], length, slice_get, option_copied, Some, Err, IsTrue, IfOk, IfNone, OnOk, OnErr};
 ghost use Rattle.std.specs.List.{AllByRecursion};
 ghost use Rattle.shard_disk.specs.Crash.{Leaves, Same};
 ghost use Rattle.shard_disk.specs.Directory.{HasFile, IsPresent};
-ghost use Rattle.shard_disk.specs.Health.{Ages, Failed};
 ghost use Rattle.shard_disk.specs.declared.damage.Damage.{Damage};
+ghost use Rattle.gate_log.specs.Faults.{LogHasCause};
 
 use crate::NewSeries;
 use crate::held::hold_all;
@@ -68,12 +68,11 @@ impl Series {
 
         ensures found { IfOk result (λ found. Finds (IsTrue D.tells) no found (D.files disk.new) (D.crashes disk.old) (D.crashes disk.new)) }
         ensures damaged { (damage : Damage) → result ≡ Err (LogFault.Damaged damage) → IsTrue D.tells → HasFile (D.files disk.old) no (IsWrong no damage) }
-        ensures fault { IsErrOf result LogFault.Fault → Failed (D.health disk.old) (D.health disk.new) }
+        ensures fault { LogHasCause result (D.health disk.old) (D.health disk.new) }
 
         ensures files { D.files disk.new ≡ D.files disk.old }
         ensures crash { Leaves Same (D.crashes disk.old) (D.crashes disk.new) }
         ensures handed_out { D.handed_out disk.new ≡ D.handed_out disk.old }
-        ensures ages { Ages (D.health disk.old) (D.health disk.new) }
     {
         let (log, records) = Log::read(alloc, disk, no)?;
         let keys = series_of(alloc, seed, no, &records)?;
