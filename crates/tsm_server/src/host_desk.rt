@@ -4,7 +4,7 @@ ghost use Rattle.std.specs.Vec.{vec_capacity};
 ghost use Rattle.session_io.specs.Clients.{closed_client};
 ghost use Rattle.session_io.specs.Directories.{left_by};
 
-use host_disk::HostDisk;
+use crate::folder_disk::FolderDisk;
 use session_io::{Client, Closed, Desk, HostClock, HostSink, HostSource, Report, Sink, Source};
 use shard_disk::Trouble;
 use std::alloc::Global;
@@ -56,7 +56,7 @@ impl Write for Output {
 
 type HostClient = Client<HostSource<Input>, HostSink<Output>, HostClock<HostRuntime>>;
 
-type HostClosed = Closed<HostDisk, HostSource<Input>, HostSink<Output>, HostClock<HostRuntime>>;
+type HostClosed = Closed<FolderDisk, HostSource<Input>, HostSink<Output>, HostClock<HostRuntime>>;
 
 /// Opens folders by their paths, which are made where they aren't there, and files by their names: the input is read, and the
 /// output is made anew. `-` stands for a standard stream. Input and output that are one regular file are a fault, which
@@ -91,7 +91,7 @@ impl HostDesk {
 }
 
 impl Desk for HostDesk {
-    type Disk = HostDisk;
+    type Disk = FolderDisk;
 
     type Source = HostSource<Input>;
 
@@ -114,11 +114,11 @@ impl Desk for HostDesk {
     // What the system will do isn't known.
     ghost health = { λ d. record { faults = d.faults; is_steady = false } };
 
-    fn open_dir(&mut self, path: &str) -> Result<HostDisk, Trouble> {
+    fn open_dir(&mut self, path: &str) -> Result<FolderDisk, Trouble> {
         let out = self.dirs_out.checked_add(1).ok_or(Trouble::Memory)?;
         let all = out.checked_add(self.out).ok_or(Trouble::Memory)?;
         self.closed.reserve(all)?;
-        match HostDisk::open(self.rt, path) {
+        match FolderDisk::open(self.rt, path) {
             Ok(disk) => {
                 self.dirs_out = out;
                 Ok(disk)
@@ -131,7 +131,7 @@ impl Desk for HostDesk {
         }
     }
 
-    fn close_dir(&mut self, disk: HostDisk)
+    fn close_dir(&mut self, disk: FolderDisk)
         requires { 0 < self.old.dirs_out }
         ensures dirs_out { self.new.dirs_out + 1 ≡ self.old.dirs_out }
         ensures out { self.new.out ≡ self.old.out }
