@@ -1,10 +1,11 @@
 -- What does a desk know of its clients?
-use Rattle.std.specs.Prelude.{◌≡◌, ℕ, ◌≤◌, ℤ, Bool, false, ◌&&◌, IsTrue, List, [], ◌∷◌, ◌++◌, All, Any, Option, Some, None, IfSome, ⊤, Result, IsOk, IsErrOf}
+use Rattle.std.specs.Prelude.{◌≡◌, ℕ, ◌≤◌, ℤ, Bool, false, ◌&&◌, IsTrue, List, [], Any, Option, IfSome, Result, IsOk, IsErrOf}
 use Rattle.shard_disk.specs.Health.{Health, Rose}
 use Rattle.shard_disk.specs.declared.trouble.Trouble.{Trouble}
 use Rattle.shard_disk.specs.declared.trouble.Trouble.TheVariants as trouble
 use Rattle.session_io.specs.declared.report.Report.{Report}
 use Rattle.session_io.specs.declared.client.Client.{Client}
+use Rattle.session_io.specs.Taking.{TakesFirst, Told}
 
 -- what is left of a client when it is closed; no report where it wasn't served
 pub record Closed : Type 0 where
@@ -58,19 +59,9 @@ abbrev pub IsHeld : {S K C : Type 0} → List ℕ → List ℕ → Option (List 
 IsHeld input output held = IfSome held (Any (IsNamed input output))
 
 -- the first client of these names, as it was held, is taken out of those that are held
-pub record TakesFirst {S K C : Type 0} (input output : List ℕ) (client : Client S K C) (old new : List (Held S K C)) : Type 0 where
-  pub before : List (Held S K C)
-  pub after : List (Held S K C)
-  pub was : old ≡ before ++ record { input = input; output = output; client = client } ∷ after
-  pub is : new ≡ before ++ after
-  pub first : All (λ held. ¬ (IsNamed input output held)) before
-
--- the same where the desk tells what it holds; it goes on to tell it
 abbrev pub HandsOut : {S K C : Type 0} → List ℕ → List ℕ → Client S K C → Option (List (Held S K C)) → Option (List (Held S K C)) → Type 0
-HandsOut input output client None None = ⊤
-HandsOut input output client None (Some new) = ⊥
-HandsOut input output client (Some old) None = ⊥
-HandsOut input output client (Some old) (Some new) = TakesFirst input output client old new
+HandsOut input output client old new =
+    Told (TakesFirst (IsNamed input output) (record { input = input; output = output; client = client })) old new
 
 -- What an opening does to the health of a desk. A steady one fails only at names under which it holds nothing.
 pub record OpeningHasCause {T : Type 0} (result : Result T Trouble) (is_held : Type 0) (old new : Health) : Type 0 where

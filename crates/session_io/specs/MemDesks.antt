@@ -8,10 +8,11 @@ use Rattle.session_io.specs.declared.client.Client.{Client}
 use Rattle.session_io.specs.declared.mem_source.MemSource.{MemSource}
 use Rattle.session_io.specs.declared.mem_sink.MemSink.{MemSink}
 use Rattle.session_io.specs.declared.mem_clock.MemClock.{MemClock}
-use Rattle.session_io.specs.declared.closed.Closed as code
-use Rattle.session_io.specs.declared.closed.Closed.TheVariants as variant
+use Rattle.session_io.specs.declared.closed.Closed.{Closed}
 use Rattle.session_io.specs.Moments.{moments_told}
-use Rattle.session_io.specs.Clients.{Closed, Held, IsFresh, IsNamed, closed_client, is_steady}
+use Rattle.session_io.specs.Clients.{Held, IsFresh, IsNamed, closed_client, is_steady}
+use Rattle.session_io.specs.Directories.{HasNoReader, HeldDir, IsAt, Left, left_by}
+use Rattle.shard_disk.specs.HandedOut.{HandedOut}
 
 abbrev pub MemClient : Type 0
 MemClient = Client MemSource MemSink MemClock
@@ -48,20 +49,42 @@ IsFreshEntry entry = IsFresh given ended source_health written sink_health momen
 abbrev pub is_steady_entry : Entry → Bool
 is_steady_entry entry = is_steady source_health sink_health entry.2
 
--- what is left of a client that was closed
-abbrev pub left_of : code.Closed → Closed
-left_of (variant.Client client report) = closed_client given ended source_health written sink_health moments client report
+-- a path and the disk that is held under it
+abbrev pub Dir : Type 0 → Type 0
+Dir D = String Global × D
 
--- a desk whose own calls fail so, and that holds these
-abbrev pub health_with : Health → List Entry → Health
-health_with own held = record { faults = own.faults; is_steady = own.is_steady && list_all is_steady_entry held }
+abbrev pub held_dir : {D : Type 0} → Dir D → HeldDir D
+held_dir dir = record { path = string_bytes dir.0; disk = dir.1 }
 
--- none of them is held under these names
-abbrev pub IsNoneNamed : List ℕ → List ℕ → List Entry → Type 0
-IsNoneNamed input output entries = All (λ (entry : Entry). ¬ (IsNamed input output (held_of entry))) entries
+-- no reader of the disk is out
+abbrev pub IsFreeDir : {D : Type 0} → (D → HandedOut) → Dir D → Type 0
+IsFreeDir handed_out dir = HasNoReader (handed_out dir.1)
 
--- the entry at this place is, and none before it
-pub record IsFirstNamed (input output : List ℕ) (entries : List Entry) (place : ℕ) : Type 0 where
+-- what is left of what was closed
+abbrev pub left_of : {D : Type 0} → Closed D MemSource MemSink MemClock → Left D
+left_of = left_by (closed_client given ended source_health written sink_health moments)
+
+-- a desk whose own calls fail so, and that holds these clients and directories
+abbrev pub health_with : {D : Type 0} → (D → Health) → Health → List Entry → List (Dir D) → Health
+health_with {D} disk_health own held dirs = record {
+  faults = own.faults;
+  is_steady = own.is_steady && (list_all is_steady_entry held && list_all (λ (dir : Dir D). (disk_health dir.1).is_steady) dirs);
+}
+
+-- none of the entries is so
+abbrev pub IsNone : {E : Type 0} → (E → Type 0) → List E → Type 0
+IsNone Is entries = All (λ entry. ¬ (Is entry)) entries
+
+-- the entry at this place is so, and none before it
+pub record IsFirst {E : Type 0} (Is : E → Type 0) (entries : List E) (place : ℕ) : Type 0 where
   pub within : place < length entries
-  pub here : IsSomeAnd (slice_get entries place) (λ (entry : Entry). IsNamed input output (held_of entry))
-  pub first : IsNoneNamed input output (take place entries)
+  pub here : IsSomeAnd (slice_get entries place) Is
+  pub first : IsNone Is (take place entries)
+
+-- the entry is held under these names
+abbrev pub HasNames : List ℕ → List ℕ → Entry → Type 0
+HasNames input output entry = IsNamed input output (held_of entry)
+
+-- the directory is held under this path
+abbrev pub HasPath : {D : Type 0} → List ℕ → Dir D → Type 0
+HasPath path dir = IsAt path (held_dir dir)

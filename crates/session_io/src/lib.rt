@@ -1,5 +1,5 @@
 //! What a session meets of the outside: a source of bytes, a sink of bytes, a clock, a gate that tests may hold it
-//! at, and the desk that opens and closes the clients that have these.
+//! at, and the desk that opens and closes directories and the clients that have these.
 #![tactic(auto)]
 
 mod client;

@@ -1,7 +1,8 @@
 use session_io::{
     Client, Clock, Closed, Desk, End, MemClock, MemDesk, MemSink, MemSource, Report, Sink, Source,
 };
-use shard_disk::{Fault, Trouble};
+use mem_disk::MemDisk;
+use shard_disk::{Disk, Fault, Trouble};
 use std::test::Fail;
 use tsdb_types::Time;
 
@@ -52,8 +53,9 @@ fn desk_hands_out_each_client_once(rt: HostRuntime) -> Result<(), Fail> {
         String::from_str(alloc, "in")?,
         String::from_str(alloc, "out")?,
     );
-    let mut desk = MemDesk::new(
+    let mut desk: MemDesk<MemDisk> = MemDesk::new(
         alloc,
+        Vec::new(alloc),
         vec![in alloc; (names.0, names.1, client)]?,
         vec![in alloc; 0]?,
     );
@@ -75,7 +77,31 @@ fn desk_hands_out_each_client_once(rt: HostRuntime) -> Result<(), Fail> {
     desk.close_client(client, Some(&report));
     let closed = desk.into_closed();
     assert_eq!(rt; closed.len(), 1);
-    let Closed::Client(_, told) = &closed[0];
+    let Closed::Client(_, told) = &closed[0] else {
+        assert!(rt; false, "a client was closed");
+        return Ok(());
+    };
     assert_eq!(rt; *told, Some(report));
+    Ok(())
+}
+
+#[test]
+fn desk_hands_out_each_directory_once(rt: HostRuntime) -> Result<(), Fail> {
+    let alloc = rt.alloc();
+    let disk = MemDisk::new(alloc, Vec::new(alloc));
+    let path = String::from_str(alloc, "db")?;
+    let mut desk = MemDesk::new(
+        alloc,
+        vec![in alloc; (path, disk)]?,
+        Vec::new(alloc),
+        Vec::new(alloc),
+    );
+    assert!(rt; desk.open_dir("other").is_err(), "no directory has this path");
+    let disk = desk.open_dir("db")?;
+    assert!(rt; desk.open_dir("db").is_err(), "the directory is out");
+    desk.close_dir(disk);
+    let closed = desk.into_closed();
+    assert_eq!(rt; closed.len(), 1);
+    assert!(rt; matches!(closed[0], Closed::Dir(_)), "a directory was closed");
     Ok(())
 }

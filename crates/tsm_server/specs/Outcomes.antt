@@ -8,6 +8,7 @@ use Rattle.session_io.specs.declared.report.End.{End}
 use Rattle.session_io.specs.declared.report.End.TheVariants.{Read, SourceFault, SinkFault, Memory}
 use Rattle.session_io.specs.Streams.{IsTold}
 use Rattle.session_io.specs.Clients.{Closed, Held, HandsOut, IsHeld, closed_client}
+use Rattle.session_io.specs.Directories.{Left, OfClient}
 use Rattle.session_model.specs.Explained.{Transcript}
 use Rattle.session_loop.specs.Sessions.{Told, IsServed, told}
 use Rattle.tsm_server.specs.Words.{AsksMem, IsCommand}
@@ -60,16 +61,16 @@ HasEnded closed Memory = (closed.source_faults ≡ 0) × (closed.sink_faults ≡
 
 -- The client was served until its session ended so, and closed as it then was. One history from nothing explains its
 -- transcript; what it read is a front of what its source had left, and all of that where the session ended with the input.
-pub record ClosesOne {S K C : Type 0} (members : Devices S K C) (client : Client S K C) (before now : List Closed) (end : End) : Type 0 where
+pub record ClosesOne {D S K C : Type 0} (members : Devices S K C) (client : Client S K C) (before now : List (Left D)) (end : End) : Type 0 where
   pub finished : Client S K C
   pub report : Report
   pub ended_by : report.end ≡ end
   pub session : IsServed (told_by members client) (told_by members finished) report
-  pub last : now ≡ before ++ closed_by members finished report ∷ []
+  pub last : now ≡ before ++ OfClient (closed_by members finished report) ∷ []
   pub tells : TellsTranscript (closed_by members finished report) session.transcript
   pub cause : HasEnded (closed_by members finished report) end
 
-module _ {S K C : Type 0} (members : Devices S K C) (words : List Word) (old new : Health) (held_before held_now : Option (List (Held S K C))) (before now : List Closed) where
+module _ {D S K C : Type 0} (members : Devices S K C) (words : List Word) (old new : Health) (held_before held_now : Option (List (Held S K C))) (before now : List (Left D)) where
   -- The first client of the two names was handed out, served until its session ended so, and closed. The desk met no fault.
   pub record ServedOne (end : End) : Type 0 where
     pub input : List ℕ

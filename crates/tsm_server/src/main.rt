@@ -2,6 +2,7 @@
 //! file OUT.
 #![tactic(auto)]
 
+mod folder_disk;
 mod gate;
 mod host_desk;
 mod memory;
@@ -11,6 +12,7 @@ mod status;
 mod tests;
 mod words;
 
+pub use folder_disk::FolderDisk;
 pub use gate::OpenGate;
 pub use host_desk::{HostDesk, Input, Output};
 pub use memory::mem;

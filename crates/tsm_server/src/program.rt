@@ -42,7 +42,7 @@ pub fn tsmd<R, K: Desk, G: Gate>(
         K.Sink.written K.Sink.health K.Clock.moments) words.now (K.health desk.old) (K.health desk.new) (K.held desk.old) (K.held desk.new)
         (K.closed desk.old) (K.closed desk.new) }
     ensures steady { WillServe words.now (K.health desk.old) (K.held desk.old) → result ≢ 3 }
-    ensures kept { K.out desk.new ≡ K.out desk.old }
+    ensures kept { (K.out desk.new ≡ K.out desk.old) × (K.dirs_out desk.new ≡ K.dirs_out desk.old) × (K.dirs desk.new ≡ K.dirs desk.old) }
 {
     let status = perform(alloc, words, desk);
     end(out, status)
@@ -63,6 +63,7 @@ fn perform<K: Desk>(alloc: Global, words: &[Word], desk: &mut K) -> Status
         (K.closed desk.old) (K.closed desk.new) result }
     ensures steady { WillServe words.now (K.health desk.old) (K.held desk.old) → result ≢ Status.Fault }
     ensures out { K.out desk.new ≡ K.out desk.old }
+    ensures dirs { (K.dirs_out desk.new ≡ K.dirs_out desk.old) × (K.dirs desk.new ≡ K.dirs desk.old) }
 {
     match mem_names(words) {
         None => Status::NoCommand,
@@ -76,6 +77,7 @@ fn serve_one<K: Desk>(alloc: Global, desk: &mut K, input: &str, output: &str) ->
         (K.held desk.old) (K.held desk.new) (K.closed desk.old) (K.closed desk.new) result }
     ensures steady { IsTrue (K.health desk.old).is_steady → IsHeld input.now output.now (K.held desk.old) → result ≢ Status.Fault }
     ensures out { K.out desk.new ≡ K.out desk.old }
+    ensures dirs { (K.dirs_out desk.new ≡ K.dirs_out desk.old) × (K.dirs desk.new ≡ K.dirs desk.old) }
 {
     match desk.open_client(input, output) {
         Err(Trouble::Fault) => Status::Fault,
@@ -97,6 +99,7 @@ fn serve_client<K: Desk>(
     ensures held { K.held desk.new ≡ K.held desk.old }
     ensures health { K.health desk.new ≡ K.health desk.old }
     ensures out { K.out desk.new + 1 ≡ K.out desk.old }
+    ensures dirs { (K.dirs_out desk.new ≡ K.dirs_out desk.old) × (K.dirs desk.new ≡ K.dirs desk.old) }
 {
     let Client {
         mut source,

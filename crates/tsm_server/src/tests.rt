@@ -3,6 +3,7 @@ mod faults;
 mod rows;
 
 use crate::{OpenGate, tsmd};
+use mem_disk::MemDisk;
 use session_io::{Client, Closed, Desk, MemClock, MemDesk, MemSink, MemSource, Word};
 use std::alloc::{AllocError, Global};
 use tsdb_types::Time;
@@ -21,7 +22,7 @@ fn desk(
     input: &str,
     failing_reads: &[u64],
     failing_writes: &[u64],
-) -> Result<MemDesk, AllocError> {
+) -> Result<MemDesk<MemDisk>, AllocError> {
     desk_at(alloc, input, failing_reads, failing_writes, Vec::new(alloc))
 }
 
@@ -32,7 +33,7 @@ fn desk_at(
     failing_reads: &[u64],
     failing_writes: &[u64],
     moments: Vec<Time>,
-) -> Result<MemDesk, AllocError> {
+) -> Result<MemDesk<MemDisk>, AllocError> {
     let client = Client {
         source: MemSource::new(
             input.as_bytes().to_vec(alloc)?,
@@ -46,7 +47,7 @@ fn desk_at(
         String::from_str(alloc, "out")?,
     );
     let clients = vec![in alloc; (names.0, names.1, client)]?;
-    Ok(MemDesk::new(alloc, clients, Vec::new(alloc)))
+    Ok(MemDesk::new(alloc, Vec::new(alloc), clients, Vec::new(alloc)))
 }
 
 fn words_of(alloc: Global, texts: &[&str]) -> Result<Vec<Word>, AllocError> {
@@ -60,14 +61,16 @@ fn words_of(alloc: Global, texts: &[&str]) -> Result<Vec<Word>, AllocError> {
 }
 
 /// Runs the program with these words over the desk.
-fn run(rt: &HostRuntime, texts: &[&str], mut desk: MemDesk) -> Result<Outcome, AllocError> {
+fn run(rt: &HostRuntime, texts: &[&str], mut desk: MemDesk<MemDisk>) -> Result<Outcome, AllocError> {
     let alloc = rt.alloc();
     let words = words_of(alloc, texts)?;
     let mut out = MemSink::new(alloc, Vec::new(alloc));
     let status = tsmd(rt, alloc, &words, &mut desk, &mut out, &OpenGate);
     let mut replies = String::new(alloc);
-    for Closed::Client(client, _) in &desk.into_closed() {
-        replies.push_str(text_of(client.sink.bytes()))?;
+    for closed in &desk.into_closed() {
+        if let Closed::Client(client, _) = closed {
+            replies.push_str(text_of(client.sink.bytes()))?;
+        }
     }
     let printed = String::from_str(alloc, text_of(out.bytes()))?;
     Ok(Outcome {

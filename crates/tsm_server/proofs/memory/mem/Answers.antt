@@ -1,6 +1,5 @@
 -- The store begins alone, with nothing.
 use Rattle.std.proofs.Common.{◌≡◌, [], true, refl, sym, subst}
-use Rattle.shard_disk.specs.Health.{Health}
 use Rattle.store_trait.specs.Plain.{told_of}
 use Rattle.store_trait.specs.Told.{Told}
 use Rattle.session_loop.specs.Steps.{Stored}
