@@ -9,12 +9,31 @@ use Rattle.point_model.specs.Histories.{State, state_after}
 use Rattle.point_model.specs.declared.entry.Entry.{Entry}
 use Rattle.shard_state.specs.declared.logs.Logs.{Logs}
 use Rattle.shard_state.specs.declared.prepare.Prepared.{Prepared}
-use Rattle.shard_state.specs.Books.{Books, state_in, with_entry, with_series}
+use Rattle.wal_store.specs.Segments.{Recorded, SpellsRecord}
+use Rattle.shard_state.specs.Books.{Books, IsNext, state_in, with_entry, with_series}
 use Rattle.shard_state.specs.Crashes.{LeavesOnly}
-use Rattle.shard_state.specs.Engine.{Holds, IsReady, IsRecordOf, MayFollow, Refused, series_in}
+use Rattle.shard_state.specs.Engine.{Holds, IsLeftEntry, IsRecordOf, MayFollow, Refused, series_in}
 use Rattle.shard_state.specs.History.{Made, Ran, Survives, entries_of}
 use Rattle.shard_state.specs.Meaning.{IsTaken, StandsWithAtMost}
 use Rattle.shard_state.specs.Opening.{IsSoundAtOpening}
+
+-- The series are held, or a refusal left those that were. What is in doubt of the entries stays so. A crash at any moment of the call
+-- leaves the state, with the entry in doubt or without.
+pub record AddsSeries {D R W : Type 0} (g : Ghosts D R W) (more : List (List ℕ)) (old new : Logs D) (result : Result (Unit {0}) Trouble) : Type 0 where
+  pub ok : OnOk result (IsTrue g.tells → (books : Books) (doubt : Option Entry) → Holds g old books doubt → Holds g new (with_series books more) doubt)
+  pub refused : OnErr result (IsTrue g.tells → (books : Books) (doubt : Option Entry) → Holds g old books doubt → Holds g new books doubt)
+  pub crash : IsTrue g.tells → (books : Books) (doubt : Option Entry) → Holds g old books doubt
+      → LeavesOnly (StandsWithAtMost (state_in books) (option_to_list doubt)) (g.crashes old.disk) (g.crashes new.disk)
+
+-- The record's entry is the last one, with nothing in doubt, or a refusal left the entries as they were. A crash at any moment of the
+-- call leaves the state, with the new entry, with the one that was in doubt, or with neither.
+pub record AddsEntry {D R W : Type 0} (g : Ghosts D R W) (added : Recorded) (old new : Logs D) (result : Result (Unit {0}) Trouble) : Type 0 where
+  pub ok : OnOk result (IsTrue g.tells → (books : Books) (doubt : Option Entry) (entry : Entry) → Holds g old books doubt → SpellsRecord added.number entry added.body → IsNext books entry
+      → Holds g new (with_entry books entry) None)
+  pub refused : OnErr result (IsTrue g.tells → (books : Books) (doubt : Option Entry) (entry : Entry) → Holds g old books doubt → SpellsRecord added.number entry added.body → IsNext books entry
+      → (left : Option Entry) × IsLeftEntry doubt entry left × Holds g new books left)
+  pub crash : IsTrue g.tells → (books : Books) (doubt : Option Entry) (entry : Entry) → Holds g old books doubt → SpellsRecord added.number entry added.body → IsNext books entry
+      → LeavesOnly (StandsWithAtMost (state_in books) (entry ∷ option_to_list doubt)) (g.crashes old.disk) (g.crashes new.disk)
 
 -- The series are held and the entry is the last one, with nothing in doubt; or a refusal left the entries as they were. A crash at
 -- any moment of the call leaves the state, with the new entry, with the one that was in doubt, or with neither.

@@ -6,7 +6,9 @@ mod closing;
 mod enter;
 mod logs;
 mod prepare;
+mod trial;
 
 pub use closing::close;
 pub use logs::Logs;
 pub use prepare::Prepared;
+pub use trial::scratch;

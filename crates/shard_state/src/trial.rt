@@ -1,0 +1,5 @@
+ghost use Rattle.std.specs.Prelude.{⊤};
+/// Scratch.
+pub fn scratch()
+    ensures { ⊤ }
+{}
