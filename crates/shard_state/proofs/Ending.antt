@@ -1,10 +1,10 @@
 -- A doubt is ended, and an engine's logs are closed.
-use Rattle.std.proofs.Common.{◌≡◌, inr, List, [], ◌∷◌, refl, sym, subst, Option, None}
+use Rattle.std.proofs.Common.{◌≡◌, inr, List, refl, sym, subst, Option, None}
 use Rattle.std.specs.Prelude.{IsTrue, OnErr, OnOk, Result}
 use Rattle.std.specs.declared.result.Result.TheVariants.{Ok, Err}
 use Rattle.std.specs.Option.{option_to_list}
 use Rattle.shard_disk.specs.Crash.{Leaves}
-use Rattle.shard_disk.specs.Directory.{ChangesAt, Directory, Ends}
+use Rattle.shard_disk.specs.Directory.{ChangesAt, Ends}
 use Rattle.shard_disk.specs.HandedOut.{HandedOut}
 use Rattle.shard_disk.specs.Health.{HasCause}
 use Rattle.shard_disk.specs.declared.disk.Disk.{Ghosts}
@@ -13,7 +13,6 @@ use Rattle.gate_log.specs.Calls.Settle.{Settling}
 use Rattle.gate_log.specs.Log.{doubtful}
 use Rattle.gate_log.specs.Records.{WithAtMost}
 use Rattle.gate_log.proofs.Results.{on_ok_then}
-use Rattle.file_table.specs.declared.row.FileRow.{FileRow}
 use Rattle.point_model.specs.Points.{Points}
 use Rattle.point_model.specs.declared.entry.Entry.{Entry}
 use Rattle.manifest_log.specs.declared.directory.Directory.{Directory as Named}

@@ -1,5 +1,5 @@
 -- An engine's logs hold what its books say, after series or an entry were added to them.
-use Rattle.std.proofs.Common.{◌≡◌, inl, inr, ℕ, ◌+◌, ◌<◌, List, [], ◌∷◌, ◌++◌, refl, sym, ap, ◌∙◌, subst, arith, Option, Some, None}
+use Rattle.std.proofs.Common.{◌≡◌, inl, inr, ℕ, ◌+◌, List, [], ◌∷◌, ◌++◌, refl, sym, ap, ◌∙◌, subst, Option}
 use Rattle.std.proofs.lemmas.List.{append-nil}
 use Rattle.std.specs.Prelude.{OnErr, OnOk, IsTrue, Result}
 use Rattle.std.specs.declared.result.Result.TheVariants.{Ok, Err}
@@ -23,10 +23,10 @@ use Rattle.series_store.specs.Lists.{MayAdd}
 use Rattle.wal_store.specs.Segments.{Recorded, Segments, SpellsRecord}
 use Rattle.shard_state.specs.declared.logs.Logs.{Logs}
 use Rattle.shard_state.specs.declared.prepare.Prepared.{Prepared}
-use Rattle.shard_state.specs.Books.{Books, IsNext, state_in, with_entry, with_series}
+use Rattle.shard_state.specs.Books.{Books, IsNext, state_in, with_series}
 use Rattle.shard_state.specs.Calls.{AddsEntry, AddsSeries, Enters}
 use Rattle.shard_state.specs.Crashes.{LeavesOnly}
-use Rattle.shard_state.specs.Engine.{AreAdopted, Holds, IsLeftEntry, MayFollow, Refused, series_in}
+use Rattle.shard_state.specs.Engine.{AreAdopted, Holds, series_in}
 use Rattle.shard_state.specs.Meaning.{StandsWithAtMost}
 use Rattle.shard_state.proofs.Leaving.{leaves_then, leaves_weaker}
 use Rattle.shard_state.proofs.Standing.{state_entry}
@@ -115,7 +115,7 @@ module _ {D R W : Type 0} (g : Ghosts D R W) (old : Logs D) (disk : D) (wal : Se
         (λ adds stays. λ told books doubt entry holds spelled next.
         let left = adds.stands told holds.keeps.latest.records holds.keeps.latest.body holds.keeps.latest.stands in
         let after = entry_refused (IsTrue g.tells) told (g.files old.disk) (g.files disk) (g.crashes old.disk) (g.crashes disk) old.manifest.log old.series old.wal wal books doubt holds.keeps entry added.body
-            (entry_run told books doubt entry holds spelled next) next (spells told books doubt entry holds spelled next) appends.kept files _ left.0 left.1 left.2 in
+        (entry_run told books doubt entry holds spelled next) next (spells told books doubt entry holds spelled next) appends.kept files _ left.0 left.1 left.2 in
         (after.0, after.1, record { keeps = after.2; adopted = adopted_entry books doubt holds; number = stays ∙ holds.number }))
         appends.refused same;
     crash = crash_entry;

@@ -1,7 +1,7 @@
 -- A history goes on: an entry is added to it, or none.
-use Rattle.std.proofs.Common.{◌≡◌, inr, ⊎_elim, ℕ, ◌+◌, ◌<◌, ◌≤◌, List, [], ◌∷◌, ◌++◌, length, take, drop, refl, sym, ap, ◌∙◌, subst, arith, append_assoc, length-append, length-take, take-append-drop, Option, Some, None}
+use Rattle.std.proofs.Common.{◌≡◌, ⊎_elim, ℕ, ◌+◌, ◌≤◌, List, [], ◌∷◌, ◌++◌, length, take, drop, refl, sym, ap, ◌∙◌, subst, arith, append_assoc, length-append, length-take, take-append-drop, Option, None}
 use Rattle.std.proofs.lemmas.List.{append-nil, map-append, take_all, take_at}
-use Rattle.std.specs.Prelude.{IsTrue, Result}
+use Rattle.std.specs.Prelude.{Result}
 use Rattle.std.specs.Option.{option_to_list}
 use Rattle.shard_disk.specs.Crash.{Crashes}
 use Rattle.shard_disk.specs.Directory.{Directory}
@@ -43,7 +43,7 @@ longer start entries more least c p = record {
         ∙ take_at (take n xs) (drop n xs ++ ys) n (omega (arith, length-take n xs, within))
 
 -- the whole, with at most one of these entries more
-whole : (start : State) (entries next : List Entry) (least : ℕ) (c : Directory) → least ≤ length entries → StandsWithAtMost (state_after start entries) next c → StandsForPrefix start entries least c
+pub whole : (start : State) (entries next : List Entry) (least : ℕ) (c : Directory) → least ≤ length entries → StandsWithAtMost (state_after start entries) next c → StandsForPrefix start entries least c
 whole start entries [] least c le stands = record {
   count = length entries;
   at_least = le;
@@ -78,7 +78,7 @@ kept_last crashes start entries count [] m kept le here = (le, (λ c left. subst
 kept_last crashes start entries count (x ∷ made) m kept le here =
     (kept.0, kept.1, kept_last crashes start entries (count + 1) made m kept.2 le (λ c left. subst (λ (n : ℕ). StandsForPrefix start entries n c) (omega arith) (here c left)))
 
-many : (made : List Made) → length (entries_of made) ≡ length made
+pub many : (made : List Made) → length (entries_of made) ≡ length made
 many [] = refl
 many (m ∷ made) = omega (arith, many made)
 

@@ -10,7 +10,6 @@ use Rattle.shard_disk.specs.Crash.{Crashes}
 use Rattle.shard_disk.specs.Directory.{ChangesAt, Directory, Ends, HasFile}
 use Rattle.shard_disk.proofs.Everywhere.{file_weaker}
 use Rattle.gate_log.specs.declared.log.Log.{Log}
-use Rattle.gate_log.specs.Damage.{IsEnd}
 use Rattle.gate_log.specs.Log.{EndsBy, HasGate, Stands, doubtful}
 use Rattle.gate_log.specs.Records.{AllFit, IsClosed, IsGated, Spells, WithAtMost}
 use Rattle.gate_log.proofs.Settling.{counts_as}

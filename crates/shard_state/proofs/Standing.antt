@@ -123,7 +123,7 @@ abbrev pub says_so : (books : Books) (files : Directory) → AreBooks books → 
     → HasClosedSegments files books.before books.earlier → HasFile files books.last (IsClosedLog (IsSegment books.latest)) → StandsFor files (state_in books)
 says_so books files sound named series layers earlier latest =
     let all : HasClosedSegments files books.named.segments (books.earlier ++ books.latest ∷ []) =
-        subst (λ (l : List ℕ). HasClosedSegments files l (books.earlier ++ books.latest ∷ [])) (sym sound.segments) (closed_last files books.before books.earlier books.last books.latest earlier latest) in
+    subst (λ (l : List ℕ). HasClosedSegments files l (books.earlier ++ books.latest ∷ [])) (sym sound.segments) (closed_last files books.before books.earlier books.last books.latest earlier latest) in
     record {
       meaning = meaning_of books;
       says = record {

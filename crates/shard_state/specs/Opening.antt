@@ -1,5 +1,5 @@
 -- When is a directory sound as it is opened?
-use Rattle.std.specs.Prelude.{◌≡◌, ◌⊎◌, ℕ, List, [], IsTrue}
+use Rattle.std.specs.Prelude.{◌≡◌, ◌⊎◌, [], IsTrue}
 use Rattle.std.specs.FinMap.{keys}
 use Rattle.shard_disk.specs.Crash.{Crashes}
 use Rattle.shard_disk.specs.Directory.{Directory, HasFile}

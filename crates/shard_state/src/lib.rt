@@ -4,11 +4,11 @@
 
 mod closing;
 mod enter;
+mod laws;
 mod logs;
 mod prepare;
-mod trial;
 
 pub use closing::close;
+pub use laws::{crashes_keep_entries, histories_go_on};
 pub use logs::Logs;
 pub use prepare::Prepared;
-pub use trial::scratch;

@@ -20,14 +20,14 @@ returns-in_err-add_series-clause-goes_on g c =
 
 pub returns-clause-enters : goal.returns-clause-enters
 returns-clause-enters g c = elim c.match-series.branch [
-    in-Some+in_ok-add_series w ↦
+  | in-Some+in_ok-add_series w ↦
       enters_both g.D.Disk c.args.prepared c.args.self.now w.add_series.new.self c.add_entry.new.self c.add_entry.result
       (subst (λ (l : List (List ℕ)). AddsSeries g.D.Disk l c.args.self.now w.add_series.new.self (Ok tt)) (ap series_in (sym w.in-Some.is)) w.in_ok-add_series.ensures.adds)
       (subst (λ s. AddsEntry g.D.Disk c.args.prepared.record s c.add_entry.new.self c.add_entry.result) w.self-is c.add_entry.ensures.adds)
   | in_default w ↦
       enters_alone g.D.Disk c.args.prepared c.args.self.now c.add_entry.new.self c.add_entry.result (ap series_in w.in_default.is)
       (subst (λ s. AddsEntry g.D.Disk c.args.prepared.record s c.add_entry.new.self c.add_entry.result) w.self-is c.add_entry.ensures.adds)
-  ]
+]
 
 pub returns-clause-goes_on : goal.returns-clause-goes_on
 returns-clause-goes_on g c =

@@ -1,5 +1,0 @@
-ghost use Rattle.std.specs.Prelude.{⊤};
-/// Scratch.
-pub fn scratch()
-    ensures { ⊤ }
-{}
