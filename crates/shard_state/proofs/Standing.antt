@@ -14,13 +14,14 @@ use Rattle.point_model.specs.Points.{Points}
 use Rattle.point_model.specs.declared.entry.Entry.{Entry}
 use Rattle.point_model.specs.declared.entry.Entry.TheVariants.{Write, Delete}
 use Rattle.point_model.proofs.HistoryLemmas.{state_after-append}
+use Rattle.manifest_log.specs.declared.directory.Directory.{Directory as Named}
 use Rattle.manifest_log.specs.Reading.{IsManifest, manifest}
 use Rattle.series_store.specs.Reading.{IsSeriesFile}
 use Rattle.wal_store.specs.Replay.{HasSegments, Holds, IsSegment, Logged, joined}
 use Rattle.wal_store.proofs.ReplayLemmas.{holds_next}
 use Rattle.shard_state.specs.Layers.{HasLayers, overlay}
 use Rattle.gate_log.specs.Records.{IsClosed}
-use Rattle.shard_state.specs.Meaning.{AreHeld, AreTaken, IsTaken, Stands, StandsFor, StandsWithAtMost, floor_of}
+use Rattle.shard_state.specs.Meaning.{AreHeld, AreTaken, IsTaken, StandsFor, StandsWithAtMost, floor_of}
 use Rattle.shard_state.specs.Books.{AreBooks, Books, HasClosedSegments, IsClosedLog, IsImage, IsLatest, IsNext, IsSeriesFrom, meaning_of, next_logged, state_in, with_entry, with_series}
 
 held_more : (series more : List (List ℕ)) (points : List Point) → AreHeld series points → AreHeld (series ++ more) points
@@ -152,12 +153,21 @@ either_of : (P Q : List ℕ → Type 0) (o : Option (List ℕ)) → IsSomeAnd o 
 either_of P Q None had = absurd had
 either_of P Q (Some bytes) had = ⊎_elim (λ p. inl (p, had.1)) (λ q. inr (q, had.1)) had.0
 
+-- the files stand for the state, by what is named so and by these layers
+abbrev pub StandsAs : Named → List Points → State → Directory → Type 0
+StandsAs named layers state files = (stands : StandsFor files state) × (stands.meaning.named ≡ named) × (stands.meaning.layers ≡ layers)
+
+-- so for the state, or for that behind one of these entries
+abbrev pub StandsAsWithAtMost : Named → List Points → State → List Entry → Directory → Type 0
+StandsAsWithAtMost named layers state [] files = StandsAs named layers state files
+StandsAsWithAtMost named layers state (entry ∷ entries) files = StandsAs named layers (state_after state (entry ∷ [])) files ⊎ StandsAsWithAtMost named layers state entries files
+
 stands_latest : (books : Books) (next : List Entry) (files : Directory) → AreBooks books → AllByRecursion (IsNext books) next → HasFile files manifest (IsClosedLog (IsManifest books.named)) → HasFile files books.series_file (IsClosedLog (IsSeriesFile books.series))
-    → HasLayers files books.named.files books.layers → HasClosedSegments files books.before books.earlier → HasFile files books.last (IsClosedLog (IsLatest books next)) → StandsWithAtMost (state_in books) next files
-stands_latest books [] files sound may named series layers earlier latest = inr (says_so books files sound named series layers earlier latest)
+    → HasLayers files books.named.files books.layers → HasClosedSegments files books.before books.earlier → HasFile files books.last (IsClosedLog (IsLatest books next)) → StandsAsWithAtMost books.named books.layers (state_in books) next files
+stands_latest books [] files sound may named series layers earlier latest = (says_so books files sound named series layers earlier latest, refl, refl)
 stands_latest books (entry ∷ next) files sound may named series layers earlier latest =
     ⊎_elim
-    (λ more. inl (subst (λ (s : State). Stands files s) (sym (state_entry books entry)) (inr (says_so (with_entry books entry) files (sound_entry books entry sound may.0) named series layers earlier more))))
+    (λ more. inl (subst (λ (s : State). StandsAs books.named books.layers s files) (sym (state_entry books entry)) (says_so (with_entry books entry) files (sound_entry books entry sound may.0) named series layers earlier more, refl, refl)))
     (λ rest. inr (stands_latest books next files sound may.1 named series layers earlier rest))
     (either_of (IsSegment (books.latest ++ next_logged books entry ∷ [])) (IsLatest books next) (get files books.last) latest)
 
@@ -170,14 +180,15 @@ latest_series books more [] bytes is = is
 latest_series books more (entry ∷ next) bytes is = ⊎_elim (λ here. inl here) (λ rest. inr (latest_series books more next bytes rest)) is
 
 -- an image stands for what the books say, or for that behind one of the entries
-pub image_stands : (books : Books) (next : List Entry) → AreBooks books → AllByRecursion (IsNext books) next → (files : Directory) → IsImage books next files → StandsWithAtMost (state_in books) next files
-image_stands books next sound may files image =
+pub image_named : (books : Books) (next : List Entry) → AreBooks books → AllByRecursion (IsNext books) next → (files : Directory) → IsImage books next files → StandsAsWithAtMost books.named books.layers (state_in books) next files
+image_named books next sound may files image =
     let series = series_of books.series (get files books.series_file) image.series in
     stands_latest (with_series books series.0) next files (sound_series books series.0 sound) (all_next books series.0 next may) image.manifest series.1 image.layers image.earlier
     (file_weaker books.last (IsClosedLog (IsLatest books next)) (IsClosedLog (IsLatest (with_series books series.0) next)) (λ bytes is. (latest_series books series.0 next bytes is.0, is.1)) files image.latest)
 
--- where no entry may be there besides, it stands for them by what the books name
-pub image_named : (books : Books) → AreBooks books → (files : Directory) → IsImage books [] files → (stands : StandsFor files (state_in books)) × (stands.meaning.named ≡ books.named) × (stands.meaning.layers ≡ books.layers)
-image_named books sound files image =
-    let series = series_of books.series (get files books.series_file) image.series in
-    (says_so (with_series books series.0) files (sound_series books series.0 sound) image.manifest series.1 image.layers image.earlier image.latest, refl, refl)
+stands_named : (named : Named) (layers : List Points) (state : State) (next : List Entry) (files : Directory) → StandsAsWithAtMost named layers state next files → StandsWithAtMost state next files
+stands_named named layers state [] files stands = inr stands.0
+stands_named named layers state (entry ∷ next) files stands = ⊎_elim (λ here. inl (inr here.0)) (λ rest. inr (stands_named named layers state next files rest)) stands
+
+pub image_stands : (books : Books) (next : List Entry) → AreBooks books → AllByRecursion (IsNext books) next → (files : Directory) → IsImage books next files → StandsWithAtMost (state_in books) next files
+image_stands books next sound may files image = stands_named books.named books.layers (state_in books) next files (image_named books next sound may files image)

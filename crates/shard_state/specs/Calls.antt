@@ -14,8 +14,8 @@ use Rattle.shard_state.specs.Books.{Books, IsNext, state_in, with_entry, with_se
 use Rattle.shard_state.specs.Crashes.{LeavesOnly}
 use Rattle.shard_state.specs.Engine.{Holds, IsLeftEntry, IsRecordOf, MayFollow, Refused, series_in}
 use Rattle.shard_state.specs.History.{Made, Ran, Survives, entries_of}
-use Rattle.shard_state.specs.Meaning.{IsTaken, StandsWithAtMost}
-use Rattle.shard_state.specs.Opening.{IsSoundAtOpening}
+use Rattle.shard_state.specs.Meaning.{IsTaken, Stands, StandsWithAtMost}
+use Rattle.shard_state.specs.Opening.{IsSoundAtOpening, IsSoundWithAtMost}
 
 -- The series are held, or a refusal left those that were. What is in doubt of the entries stays so. A crash at any moment of the call
 -- leaves the state, with the entry in doubt or without.
@@ -70,13 +70,13 @@ pub record SettlesDoubt {D R W : Type 0} (g : Ghosts D R W) (old new : Logs D) (
       → LeavesOnly (StandsWithAtMost (state_in books) (option_to_list doubt)) (g.crashes old.disk) (g.crashes new.disk)
   pub ran : IsTrue g.tells → (start : State) (since : ℕ) (made : List Made) → Ran g old start since made → Ran g new start since made
 
--- After Ok the disk stands for exactly the state and every crash leaves it, so that it is sound as it is opened again. After a
--- refusal a crash may leave the entry that was in doubt.
+-- After Ok the disk stands for exactly the state, and every crash leaves it. After a refusal the entry that was in doubt may be there
+-- besides. Either way the disk is sound as it is opened again.
 pub record Closes {D R W : Type 0} (g : Ghosts D R W) (logs : Logs D) (disk : D) (result : Result (Unit {0}) Trouble) : Type 0 where
   pub ok : OnOk result (IsTrue g.tells → (books : Books) (doubt : Option Entry) → Holds g logs books doubt
-      → IsSoundAtOpening g disk (state_in books) × ((c : Directory) → (g.crashes disk).now c → StandsWithAtMost (state_in books) [] c))
+      → IsSoundAtOpening g disk (state_in books) × ((c : Directory) → (g.crashes disk).now c → Stands c (state_in books)))
   pub refused : OnErr result (IsTrue g.tells → (books : Books) (doubt : Option Entry) → Holds g logs books doubt
-      → (c : Directory) → (g.crashes disk).now c → StandsWithAtMost (state_in books) (option_to_list doubt) c)
+      → IsSoundWithAtMost g disk (state_in books) (option_to_list doubt) × ((c : Directory) → (g.crashes disk).now c → StandsWithAtMost (state_in books) (option_to_list doubt) c))
   pub crash : IsTrue g.tells → (books : Books) (doubt : Option Entry) → Holds g logs books doubt
       → LeavesOnly (StandsWithAtMost (state_in books) (option_to_list doubt)) (g.crashes logs.disk) (g.crashes disk)
   pub ran : IsTrue g.tells → (start : State) (since : ℕ) (made : List Made) → Ran g logs start since made → Survives (g.crashes disk) start since made

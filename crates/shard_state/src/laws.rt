@@ -1,4 +1,5 @@
 ghost use Rattle.std.specs.Prelude.{◌≡◌, ◌+◌, ◌++◌, ◌∷◌, [], ℕ, List, length, Option, IsTrue};
+ghost use Rattle.std.specs.Option.{option_to_list};
 ghost use Rattle.shard_disk.specs.Directory.{Directory, IsPresent};
 ghost use Rattle.point_model.specs.Histories.{State, state_after};
 ghost use Rattle.point_model.specs.declared.entry.Entry.{Entry};
@@ -7,7 +8,7 @@ ghost use Rattle.shard_state.specs.Crashes.{LeavesOnly};
 ghost use Rattle.shard_state.specs.Engine.{Holds, IsOpened};
 ghost use Rattle.shard_state.specs.History.{Made, Ran, StandsForPrefix, Survives, entries_of};
 ghost use Rattle.shard_state.specs.Meaning.{Stands, StandsWithAtMost};
-ghost use Rattle.shard_state.specs.Opening.{IsSoundAtOpening};
+ghost use Rattle.shard_state.specs.Opening.{IsSoundAtOpening, IsSoundWithAtMost};
 ghost use Rattle.shard_state.specs.declared.logs.Logs.{Logs};
 
 use shard_disk::Disk;
@@ -25,12 +26,15 @@ pub fn histories_go_on<D: Disk>()
 {}
 
 /// Each image of any moment since the start of a history stands for a prefix of its entries and at most one entry more, and each since
-/// the moment of an entry has that entry. A disk that was left so by a crash is sound as it is opened.
+/// the moment of an entry has that entry. A disk is sound as it is opened, where the logs on it were left as they were and where it reads
+/// what a crash left.
 pub fn crashes_keep_entries<D: Disk>()
     ensures prefix { (disk : D) (start : State) (since : ℕ) (made : List Made) → Survives (D.crashes disk) start since made
         → (c : Directory) → (D.crashes disk).since since c → StandsForPrefix start (entries_of made) 0 c }
     ensures has_entry { (disk : D) (start : State) (since : ℕ) (before : List Made) (m : Made) (behind : List Made) → Survives (D.crashes disk) start since (before ++ m ∷ behind)
         → (c : Directory) → (D.crashes disk).since m.moment c → StandsForPrefix start (entries_of (before ++ m ∷ behind)) (length before + 1) c }
+    ensures left { (logs : Logs D) (books : Books) (doubt : Option Entry) → IsTrue D.tells → Holds D.Disk logs books doubt
+        → IsSoundWithAtMost D.Disk logs.disk (state_in books) (option_to_list doubt) }
     ensures opens { (disk : D) (state : State) → Stands (D.files disk) state → ((c : Directory) → (D.crashes disk).now c → c ≡ D.files disk)
         → ((n : ℕ) → IsPresent (D.files disk) n → IsTrue ((D.handed_out disk).adopted n)) → IsSoundAtOpening D.Disk disk state }
 {}
