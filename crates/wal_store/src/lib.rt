@@ -11,7 +11,6 @@ mod laws;
 mod point;
 mod record;
 mod replay;
-mod segment;
 mod text;
 mod wal;
 
@@ -19,4 +18,5 @@ pub use entry::{one_entry, read_entry, write_entry};
 pub use fault::EntryFault;
 pub use framed::WalRecord;
 pub use laws::{one_segment_read, records_fit};
+pub use replay::{Place, Replay};
 pub use wal::Wal;
