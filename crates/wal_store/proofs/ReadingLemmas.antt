@@ -8,7 +8,7 @@ use Rattle.shard_disk.specs.declared.damage.Damage.{Damage}
 use Rattle.shard_disk.specs.declared.damage.Why.{Why}
 use Rattle.wal_store.specs.declared.replay.Place.{Place}
 use Rattle.wal_store.specs.Replay.{AreCounted, IsStrange, Logged, StandsStrange, past}
-use Rattle.wal_store.specs.Reading.{Ends, Gives, HasRead, Reads, Replaying, entries_past, with_record}
+use Rattle.wal_store.specs.Reading.{Ends, Gives, HasRead, Reads, Replaying, TakesAll, entries_past, with_record}
 use Rattle.wal_store.specs.Segments.{Segments, SpellsRecord}
 use Rattle.wal_store.proofs.ReplayLemmas.{are_more, counted_more, is_below, is_past, newest_more, past_more, spelled_more}
 
@@ -182,3 +182,44 @@ strange_at first now rest body damage why passed next is strange before here rec
       named = ap (λ (d : Damage). d.file) is ∙ ap (λ (w : Segments). w.log.file) passed.reads.same;
       gate = ap (λ (d : Damage). d.offset) is ∙ on.has.gate;
     }
+
+-- ---- a segment to its end
+
+-- so much was read since the first, and these entries past the floor were taken
+pub record Taken (first now : Replaying) (entries entries' : List Entry) : Type 0 where
+  pub read : List (List ℕ)
+  pub given : List Entry
+  pub reads : Reads first now read given
+  pub behind : entries' ≡ entries ++ given
+
+pub taken_none : (r : Replaying) (entries : List Entry) → Taken r r entries entries
+taken_none r entries = record { read = []; given = []; reads = reads_none r; behind = sym (append-nil entries) }
+
+pub taken_more : (first now new : Replaying) (place : Place) (entry : Entry) (entries so_far entries' : List Entry) → Taken first now entries so_far → Gives now new place entry → entries' ≡ so_far ++ entry ∷ [] → Taken first new entries entries'
+taken_more first now new place entry entries so_far entries' taken gives is = record {
+  read = taken.read ++ (gives.passed ++ gives.body ∷ []);
+  given = taken.given ++ entry ∷ [];
+  reads = reads_then first now new taken.read (gives.passed ++ gives.body ∷ []) taken.given (entry ∷ []) taken.reads gives.reads;
+  behind = is ∙ ap (λ (es : List Entry). es ++ entry ∷ []) taken.behind ∙ append_assoc entries taken.given (entry ∷ []);
+}
+
+pub takes_all : (first now new : Replaying) (entries entries' : List Entry) → Taken first now entries entries' → Ends now new → TakesAll first new entries entries'
+takes_all first now new entries entries' taken ends = record {
+  given = taken.given;
+  reads = subst (λ (es : List Entry). Reads first new first.left es) (append-nil taken.given)
+      (subst (λ (read : List (List ℕ)). Reads first new read (taken.given ++ [])) (sym taken.reads.parts) (reads_then first now new taken.read now.left taken.given [] taken.reads ends.reads));
+  none = ends.none;
+  behind = taken.behind;
+}
+
+-- what is strange behind what was read is so behind the first
+pub strange_back : (first now : Replaying) (damage : Damage) (read : List (List ℕ)) (given : List Entry) → Reads first now read given
+    → ((before here : List Logged) (records : List (List ℕ)) → HasRead now before here records → StandsStrange damage now.wal.log.file now.floor before (records ++ now.left))
+    → (before here : List Logged) (records : List (List ℕ)) → HasRead first before here records → StandsStrange damage first.wal.log.file first.floor before (records ++ first.left)
+strange_back first now damage read given reads strange before here records has =
+    let on = reads.on before here records has in
+    let there = strange before (here ++ on.more) (records ++ read) on.has in
+    let all : (records ++ read) ++ now.left ≡ records ++ first.left = append_assoc records read now.left ∙ ap (λ (l : List (List ℕ)). records ++ l) (sym reads.parts) in
+    subst (λ (n : ℕ). StandsStrange damage n first.floor before (records ++ first.left)) (ap (λ (w : Segments). w.log.file) reads.same)
+    (subst (λ (f : ℕ). StandsStrange damage now.wal.log.file f before (records ++ first.left)) reads.floor
+    (subst (StandsStrange damage now.wal.log.file now.floor before) all there))

@@ -1,8 +1,9 @@
 -- Segments that are read one behind the other.
-use Rattle.std.proofs.Common.{◌≡◌, ℕ, ◌+◌, ◌<◌, ◌≤◌, ◌^◌, false, List, [], ◌∷◌, ◌++◌, length, map, refl, sym, ap, subst, ◌∙◌, arith, inl, inr, ⊎_elim}
+use Rattle.std.proofs.Common.{◌≡◌, ℕ, zero, suc, ◌+◌, ◌<◌, ◌≤◌, ◌^◌, false, List, [], ◌∷◌, ◌++◌, length, map, get_or, take, drop, refl, sym, ap, subst, ◌∙◌, arith, inl, inr, ⊎_elim}
 use Rattle.std.specs.List.{AllByRecursion}
 use Rattle.std.specs.FinMap.{get}
-use Rattle.std.proofs.lemmas.List.{append_assoc, append-nil, length-append, map-append}
+use Rattle.std.proofs.Math.Seq.{split_at}
+use Rattle.std.proofs.lemmas.List.{append_assoc, append-nil, length-append, map-append, take_more}
 use Rattle.std.proofs.lemmas.Grind.{flat_map-append}
 use Rattle.fixed_width.specs.Fields.{bytes_of_u64}
 use Rattle.fixed_width.proofs.Fronts.{length-u64}
@@ -20,11 +21,32 @@ use Rattle.shard_disk.specs.Crash.{Crashes, IsDurable, Leaves, Same}
 use Rattle.shard_disk.specs.Directory.{Directory, HasFile}
 use Rattle.shard_disk.specs.declared.damage.Damage.{Damage}
 use Rattle.shard_disk.proofs.Everywhere.{file_weaker}
+use Rattle.shard_disk.proofs.Runs.{joins}
 use Rattle.wal_store.specs.Segments.{Segments, SpellsRecord, last_number, one_segment, with_segment}
 use Rattle.wal_store.specs.Replay.{AreCounted, AreRecords, HasSegments, IsSegment, IsWrong, IsWrongSegment, Logged, Replays, StandsStrange, joined, last_past, newest_of, past}
-use Rattle.wal_store.specs.Reading.{AreRead, HasRead, Reads, Replaying, entries_past}
+use Rattle.wal_store.specs.Reading.{AreRead, HasRead, Reads, Replaying, TakesAll, entries_past}
 use Rattle.wal_store.proofs.ListLemmas.{all_push}
 use Rattle.wal_store.proofs.ReplayLemmas.{counted_front, length_map}
+
+-- runs that add nothing, one after the other
+pub same_then : (old mid new : Crashes) → Leaves Same old mid → Leaves Same mid new → Leaves Same old new
+same_then old mid new first second = joins Same Same Same old mid new (λ d c same. same) (λ d c e one two. two ∙ one) first second
+
+-- ---- files behind the first
+
+all_at : (P : ℕ → Type 0) (segments : List ℕ) (k d : ℕ) → k < length segments → AllByRecursion P segments → P (get_or segments k d)
+all_at P [] k d within all = absurd (omega (arith, within))
+all_at P (x ∷ xs) zero d within all = all.0
+all_at P (x ∷ xs) (suc k) d within all = all_at P xs k d (omega (arith, within)) all.1
+
+pub so_behind : (P : ℕ → Type 0) (first : ℕ) (segments others : List ℕ) (k d : ℕ) → segments ≡ first ∷ others → k < length others → AllByRecursion P segments → P (get_or others k d)
+so_behind P first segments others k d parts within all = all_at P others k d within (subst (AllByRecursion P) parts all).1
+
+pub cut_behind : (first : ℕ) (segments others : List ℕ) (k d : ℕ) → segments ≡ first ∷ others → k < length others → (first ∷ take k others) ++ get_or others k d ∷ drop (suc k) others ≡ segments
+cut_behind first segments others k d parts within = sym (parts ∙ ap (λ (l : List ℕ). first ∷ l) (split_at others k d within))
+
+pub more_behind : (first : ℕ) (others : List ℕ) (k d : ℕ) → k < length others → (first ∷ take k others) ++ get_or others k d ∷ [] ≡ first ∷ take (k + 1) others
+more_behind first others k d within = sym (ap (λ (l : List ℕ). first ∷ l) (take_more others k d within))
 
 -- ---- one segment
 
@@ -264,3 +286,87 @@ wrong_next tells told damage file replay earlier here files crashes crashes' oth
   counted = subst (AreCounted replay.floor) (sym (joined_more earlier here)) are.has.counted;
   wrong = damaged_segment damage file replay.floor (joined (earlier ++ here ∷ [])) files bad;
 }
+
+-- ---- each to its end
+
+-- these segments are read to their ends, and these are the entries past the floor
+pub record AreWhole (tells : Type 0) (floor : ℕ) (segments : List ℕ) (replay : Replaying) (entries : List Entry) (files : Directory) (crashes crashes' : Crashes) : Type 0 where
+  pub earlier : List (List Logged)
+  pub here : List Logged
+  pub are : AreRead tells replay earlier here files crashes crashes'
+  pub none : replay.left ≡ []
+  pub past_floor : entries ≡ entries_past floor (joined earlier ++ here)
+  pub from : replay.floor ≡ floor
+  pub own : replay.wal.files ≡ segments
+
+-- the open segment is read to its end
+end_of : (tells : Type 0) (floor : ℕ) (segments : List ℕ) (open_ closed : Replaying) (earlier : List (List Logged)) (entries entries' : List Entry) (files : Directory) (crashes crashes' : Crashes) → AreRead tells open_ earlier [] files crashes crashes'
+    → entries ≡ entries_past open_.floor (joined earlier ++ []) → open_.floor ≡ floor → open_.wal.files ≡ segments → TakesAll open_ closed entries entries' → AreWhole tells floor segments closed entries' files crashes crashes'
+end_of tells floor segments open_ closed earlier entries entries' files crashes crashes' are so_far from own all =
+    let on = read_on tells open_ closed earlier [] open_.left all.given files crashes crashes' all.reads are in
+    let same = all.reads.floor ∙ from in
+    record {
+      earlier = earlier;
+      here = on.more;
+      are = on.are;
+      none = all.none;
+      past_floor = all.behind ∙ ap (λ (es : List Entry). es ++ all.given) so_far ∙ sym on.past_floor ∙ ap (λ (f : ℕ). entries_past f (joined earlier ++ on.more)) same;
+      from = same;
+      own = ap (λ (w : Segments). w.files) all.reads.same ∙ own;
+    }
+
+pub first_whole : (tells : Type 0) (floor file : ℕ) (open_ closed : Replaying) (entries entries' : List Entry) (files : Directory) (crashes crashes' : Crashes) → floor ≤ last_number → entries ≡ []
+    → open_ ≡ record { floor = floor; wal = one_segment open_.wal.log floor; left = open_.left; gate = 0 } → ReadsLog tells file open_.wal.log open_.left files crashes crashes' → TakesAll open_ closed entries entries'
+    → AreWhole tells floor (file ∷ []) closed entries' files crashes crashes'
+first_whole tells floor file open_ closed entries entries' files crashes crashes' most none is log all =
+    end_of tells floor (file ∷ []) open_ closed [] entries entries' files crashes crashes' (first_open tells floor file open_ files crashes crashes' most is log) none
+    (ap (λ (r : Replaying). r.floor) is) (ap (λ (r : Replaying). r.wal.files) is ∙ ap (λ (n : ℕ). n ∷ []) log.file) all
+
+pub more_whole : (tells : Type 0) (floor file : ℕ) (segments : List ℕ) (old open_ closed : Replaying) (entries entries' : List Entry) (files files' : Directory) (crashes mid crashes' : Crashes) → files' ≡ files → Leaves Same crashes mid → Leaves Same mid crashes'
+    → open_ ≡ record { floor = old.floor; wal = with_segment old.wal open_.wal.log; left = open_.left; gate = 0 } → ReadsLog tells file open_.wal.log open_.left files' mid crashes' → TakesAll open_ closed entries entries'
+    → AreWhole tells floor segments old entries files crashes mid → AreWhole tells floor (segments ++ file ∷ []) closed entries' files' crashes crashes'
+more_whole tells floor file segments old open_ closed entries entries' files files' crashes mid crashes' same first second is log all old_whole =
+    let from = ap (λ (r : Replaying). r.floor) is in
+    end_of tells floor (segments ++ file ∷ []) open_ closed (old_whole.earlier ++ old_whole.here ∷ []) entries entries' files' crashes crashes'
+    (next_open tells file old open_ old_whole.earlier old_whole.here files files' crashes mid crashes' old_whole.none same first second is log old_whole.are)
+    (old_whole.past_floor ∙ ap (λ (f : ℕ). entries_past f (joined old_whole.earlier ++ old_whole.here)) (sym old_whole.from) ∙ sym (next_entries old open_ old_whole.earlier old_whole.here from))
+    (from ∙ old_whole.from) (ap (λ (r : Replaying). r.wal.files) is ∙ (λ i. old_whole.own i ++ log.file i ∷ [])) all
+
+pub whole_replays : (tells : Type 0) (floor : ℕ) (segments : List ℕ) (replay : Replaying) (entries : List Entry) (files : Directory) (crashes crashes' : Crashes) → AreWhole tells floor segments replay entries files crashes crashes'
+    → Replays tells floor segments replay.wal entries files crashes crashes'
+whole_replays tells floor segments replay entries files crashes crashes' all =
+    subst (λ (es : List Entry). Replays tells floor segments replay.wal es files crashes crashes') (sym all.past_floor)
+    (subst (λ (s : List ℕ). Replays tells floor s replay.wal (entries_past floor (joined all.earlier ++ all.here)) files crashes crashes') all.own
+    (subst (λ (f : ℕ). Replays tells f replay.wal.files replay.wal (entries_past f (joined all.earlier ++ all.here)) files crashes crashes') all.from
+    (whole tells replay all.earlier all.here files crashes crashes' all.none all.are)))
+
+-- the log of the next one is wrong, or a record of it
+pub wrong_log : (tells : Type 0) (told : tells) (damage : Damage) (floor file : ℕ) (segments others : List ℕ) (replay : Replaying) (entries : List Entry) (files : Directory) (crashes crashes' : Crashes) → HasFile files file (TellsOf (Damaged damage) file)
+    → AreWhole tells floor segments replay entries files crashes crashes' → IsWrong damage floor files (segments ++ file ∷ others)
+wrong_log tells told damage floor file segments others replay entries files crashes crashes' bad all =
+    subst (λ (s : List ℕ). IsWrong damage floor files (s ++ file ∷ others)) all.own
+    (subst (λ (f : ℕ). IsWrong damage f files (replay.wal.files ++ file ∷ others)) all.from (wrong_next tells told damage file replay all.earlier all.here files crashes crashes' others all.none bad all.are))
+
+wrong_record : (tells : Type 0) (told : tells) (damage : Damage) (floor : ℕ) (segments others : List ℕ) (open_ : Replaying) (earlier : List (List Logged)) (files : Directory) (crashes crashes' : Crashes) → open_.floor ≡ floor → open_.wal.files ≡ segments
+    → ((before here : List Logged) (records : List (List ℕ)) → HasRead open_ before here records → StandsStrange damage open_.wal.log.file open_.floor before (records ++ open_.left))
+    → AreRead tells open_ earlier [] files crashes crashes' → IsWrong damage floor files (segments ++ others)
+wrong_record tells told damage floor segments others open_ earlier files crashes crashes' from own strange are =
+    subst (λ (s : List ℕ). IsWrong damage floor files (s ++ others)) own
+    (subst (λ (f : ℕ). IsWrong damage f files (open_.wal.files ++ others)) from (wrong_here tells told damage open_ earlier [] files crashes crashes' others strange are))
+
+pub wrong_in_first : (tells : Type 0) (told : tells) (damage : Damage) (floor file : ℕ) (others : List ℕ) (open_ : Replaying) (files : Directory) (crashes crashes' : Crashes) → floor ≤ last_number
+    → open_ ≡ record { floor = floor; wal = one_segment open_.wal.log floor; left = open_.left; gate = 0 } → ReadsLog tells file open_.wal.log open_.left files crashes crashes'
+    → ((before here : List Logged) (records : List (List ℕ)) → HasRead open_ before here records → StandsStrange damage open_.wal.log.file open_.floor before (records ++ open_.left)) → IsWrong damage floor files (file ∷ others)
+wrong_in_first tells told damage floor file others open_ files crashes crashes' most is log strange =
+    wrong_record tells told damage floor (file ∷ []) others open_ [] files crashes crashes' (ap (λ (r : Replaying). r.floor) is) (ap (λ (r : Replaying). r.wal.files) is ∙ ap (λ (n : ℕ). n ∷ []) log.file) strange
+    (first_open tells floor file open_ files crashes crashes' most is log)
+
+pub wrong_in_next : (tells : Type 0) (told : tells) (damage : Damage) (floor file : ℕ) (segments others : List ℕ) (old open_ : Replaying) (entries : List Entry) (files files' : Directory) (crashes mid crashes' : Crashes) → files' ≡ files → Leaves Same crashes mid → Leaves Same mid crashes'
+    → open_ ≡ record { floor = old.floor; wal = with_segment old.wal open_.wal.log; left = open_.left; gate = 0 } → ReadsLog tells file open_.wal.log open_.left files' mid crashes'
+    → ((before here : List Logged) (records : List (List ℕ)) → HasRead open_ before here records → StandsStrange damage open_.wal.log.file open_.floor before (records ++ open_.left)) → AreWhole tells floor segments old entries files crashes mid
+    → IsWrong damage floor files' (segments ++ file ∷ others)
+wrong_in_next tells told damage floor file segments others old open_ entries files files' crashes mid crashes' same first second is log strange all =
+    subst (IsWrong damage floor files') (append_assoc segments (file ∷ []) others)
+    (wrong_record tells told damage floor (segments ++ file ∷ []) others open_ (all.earlier ++ all.here ∷ []) files' crashes crashes' (ap (λ (r : Replaying). r.floor) is ∙ all.from)
+    (ap (λ (r : Replaying). r.wal.files) is ∙ (λ i. all.own i ++ log.file i ∷ [])) strange
+    (next_open tells file old open_ all.earlier all.here files files' crashes mid crashes' all.none same first second is log all.are))

@@ -67,6 +67,13 @@ pub record Ends (old new : Replaying) : Type 0 where
   pub reads : Reads old new old.left []
   pub none : new.left ≡ []
 
+-- The open segment is read to its end, and its entries past the floor stand behind others.
+pub record TakesAll (old new : Replaying) (entries entries' : List Entry) : Type 0 where
+  pub given : List Entry
+  pub reads : Reads old new old.left given
+  pub none : new.left ≡ []
+  pub behind : entries' ≡ entries ++ given
+
 -- So far the segments are read: those before the open one whole, which have these entries, and of the open one records of these.
 -- A crash leaves each file as it reads.
 pub record AreRead (tells : Type 0) (replay : Replaying) (earlier : List (List Logged)) (here : List Logged) (files : Directory) (crashes crashes' : Crashes) : Type 0 where

@@ -11,6 +11,7 @@ mod laws;
 mod point;
 mod record;
 mod replay;
+mod segments;
 mod text;
 mod wal;
 

@@ -98,6 +98,7 @@ impl Replay {
 
         ensures ok { OnOk result ((self.new ≡ record { floor = self.old.floor; wal = with_segment self.old.wal self.new.wal.log; left = self.new.left; gate = 0 })
             × ReadsLog (IsTrue D.tells) file self.new.wal.log self.new.left (D.files disk.new) (D.crashes disk.old) (D.crashes disk.new)) }
+        ensures refused { OnErr result (self.new ≡ self.old) }
         ensures damaged { IfErr result (λ fault. IsTrue D.tells → HasFile (D.files disk.old) file (TellsOf fault file)) }
         ensures fault { LogHasCause result (D.health disk.old) (D.health disk.new) }
 
