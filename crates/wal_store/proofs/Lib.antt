@@ -5,6 +5,7 @@ pub mod ListLemmas
 pub mod OnceLemmas
 pub mod PointLemmas
 pub mod PutLemmas
+pub mod ReadingLemmas
 pub mod RecordLemmas
 pub mod ReplayLemmas
 pub mod RoomLemmas

@@ -13,13 +13,13 @@ use Rattle.point_model.specs.Acceptance.{IsKeyed}
 use Rattle.point_model.specs.Acceptance as acceptance
 use Rattle.point_model.specs.Deletions.{IsLoggable}
 use Rattle.point_model.specs.declared.deletion.Deletion.{Deletion}
-use Rattle.point_model.specs.Sizes.{condition_length, deletion_length, goes_on, head_length, point_length, runs_length, write_length}
+use Rattle.point_model.specs.Sizes.{condition_length, deletion_length, head_length, point_length, runs_length, write_length}
 use Rattle.tsdb_types.specs.Keys.{mark}
 use Rattle.tsdb_types.specs.declared.value.Value.{Value}
 use Rattle.tsdb_types.specs.declared.value.Value.TheVariants as value_of
 use Rattle.point_model.specs.declared.entry.Entry.{Entry}
 use Rattle.point_model.specs.declared.entry.Entry.TheVariants.{Write, Delete}
-use Rattle.wal_store.specs.Conditions.{condition_bytes, AreComparisons, IsComparison}
+use Rattle.wal_store.specs.Conditions.{condition_bytes, AreComparisons}
 use Rattle.wal_store.specs.Form.{Group, text_bytes, group_bytes, groups_bytes, point_bytes, points_of, value_bytes, IsGroup, IsPointOf}
 use Rattle.wal_store.specs.Runs.{entry_bytes, runs_of, with_first, HasShortTexts, IsWritable}
 use Rattle.wal_store.specs.Segments.{record_bytes}

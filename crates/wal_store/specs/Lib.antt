@@ -1,7 +1,7 @@
 pub mod Conditions
 pub mod Form
+pub mod Reading
 pub mod Replay
-pub mod Replaying
 pub mod Runs
 pub mod Segments
 pub mod Spelling

@@ -11,7 +11,7 @@ mod laws;
 mod point;
 mod record;
 mod replay;
-mod segment;
+mod segments;
 mod text;
 mod wal;
 
@@ -19,4 +19,5 @@ pub use entry::{one_entry, read_entry, write_entry};
 pub use fault::EntryFault;
 pub use framed::WalRecord;
 pub use laws::{one_segment_read, records_fit};
+pub use replay::{Place, Replay};
 pub use wal::Wal;

@@ -1,4 +1,4 @@
-ghost use Rattle.std.specs.Prelude.{◌≡◌, ◌≢◌, ◌↔◌, ◌≤◌, ◌<◌, ◌++◌, ◌∷◌, ◌^◌, [], true, length, drop, take_while, nat_le, IsTrue, IfOk, IfErr, OnOk, OnErr, vec_len, vec_capacity};
+ghost use Rattle.std.specs.Prelude.{◌≡◌, ◌≢◌, ◌↔◌, ◌≤◌, ◌<◌, ◌++◌, ◌∷◌, ◌^◌, [], true, length, max, drop, take_while, nat_le, IsTrue, IfOk, IfErr, OnOk, OnErr, vec_len, vec_capacity};
 ghost use Rattle.point_model.specs.declared.entry.Entry.TheVariants.{Write, Delete};
 ghost use Rattle.wal_store.specs.Runs.{IsWritable};
 ghost use Rattle.wal_store.specs.Segments.{SpellsRecord, last_number, record_of};
@@ -48,6 +48,14 @@ impl Wal {
     /// is no memory the segment comes back.
     pub fn new(alloc: Global, log: Log, last: u64) -> Result<Wal, (Log, AllocError)>
         requires { IsEmptyLog log }
+        ensures ok { IfOk result (λ wal. wal ≡ one_segment log last) }
+        ensures refused { IfErr result (λ back. back.0 ≡ log) }
+    {
+        Wal::of(alloc, log, last)
+    }
+
+    /// A log of one segment.
+    pub(crate) fn of(alloc: Global, log: Log, last: u64) -> Result<Wal, (Log, AllocError)>
         ensures ok { IfOk result (λ wal. wal ≡ one_segment log last) }
         ensures refused { IfErr result (λ back. back.0 ≡ log) }
     {
@@ -161,11 +169,41 @@ impl Wal {
         requires empty { IsEmptyLog log }
         ensures { self.new ≡ with_segment self.old log }
     {
+        self.push_segment(log);
+    }
+
+    /// A further segment, for which there is room.
+    pub(crate) fn push_segment(&mut self, log: Log)
+        requires { self.old.has_room ≡ true }
+        ensures { self.new ≡ with_segment self.old log }
+    {
         push_within(&mut self.files, log.file());
         push_within(&mut self.newest, self.newest_here);
         self.newest_here = 0;
         self.log = log;
         self.has_room = false;
+    }
+
+    /// The last segment has an entry of this number, and it is the last one where it is greater.
+    pub(crate) fn pass(&mut self, number: u64)
+        ensures { self.new ≡ record self.old { newest_here = max self.old.newest_here number; last = max self.old.last number } }
+    {
+        self.newest_here = self.newest_here.max(number);
+        self.last = self.last.max(number);
+    }
+
+    /// The number of the last entry, or the floor where there is none past it.
+    pub fn last(&self) -> u64
+        ensures { result ≡ self.now.last }
+    {
+        self.last
+    }
+
+    /// The file of the last segment.
+    pub(crate) fn last_file(&self) -> u32
+        ensures { result ≡ self.now.log.file }
+    {
+        self.log.file()
     }
 
     /// How many segments at the front hold no entry past this number, the last aside. Once an edit that forgets them is durable,

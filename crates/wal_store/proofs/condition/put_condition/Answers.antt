@@ -1,7 +1,7 @@
-use Rattle.std.proofs.Common.{◌≡◌, ◌++◌, ◌∙◌, ap, sym, subst, None, take, List, arith, ℕ}
+use Rattle.std.proofs.Common.{◌++◌, ◌∙◌, ap, subst, None, List, ℕ}
 use Rattle.std.specs.List.{flat_map, AllByRecursion}
 use Rattle.std.proofs.lemmas.List.{take_all}
-use Rattle.wal_store.proofs.PutLemmas.{IsPartAt, Parts, bytes_at, parts_bytes, parts_compared, put_more, short_at, short_parts}
+use Rattle.wal_store.proofs.PutLemmas.{IsPartAt, Parts, bytes_at, parts_bytes, parts_compared, put_more, short_at}
 use Rattle.wal_store.proofs.condition.put_condition.Goals as goal
 
 pub put_part-requires : goal.put_part-requires

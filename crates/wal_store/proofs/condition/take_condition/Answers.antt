@@ -1,11 +1,11 @@
-use Rattle.std.proofs.Common.{◌≡◌, ◌≢◌, ◌++◌, ◌∙◌, ◌∷◌, ℕ, List, Bor, Some, None, subst, sym, ap, arith}
+use Rattle.std.proofs.Common.{◌≢◌, ◌++◌, ℕ, List, Bor, subst, sym, arith}
 use Rattle.point_model.specs.Conditions.{Condition}
-use Rattle.point_model.specs.Flat.{First, Side, closed, condition_of}
+use Rattle.point_model.specs.Flat.{Side, closed, condition_of}
 use Rattle.point_model.specs.Readings.{IsRead}
 use Rattle.point_model.specs.declared.part.Part.{Part}
 use Rattle.point_model.specs.declared.reader.ReadCond.{ReadCond}
 use Rattle.wal_store.specs.Conditions.{condition_bytes, AreComparisons}
-use Rattle.wal_store.specs.Stack.{Closes, IsLeaf, IsNode}
+use Rattle.wal_store.specs.Stack.{IsLeaf, IsNode}
 use Rattle.wal_store.proofs.TextLemmas.{if_some_at, if_none_at}
 use Rattle.wal_store.proofs.StackLemmas.{Reading, awaits, closes, leaf_room, no_part, read_whole, reading_join, reading_part, too_deep}
 use Rattle.wal_store.proofs.condition.take_condition.Goals as goal
