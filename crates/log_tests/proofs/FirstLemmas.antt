@@ -49,5 +49,6 @@ first_may tells changes body begun files crashes is framed stands = record {
     lead = record { written = tt; leave = refl };
     stands = stands t;
     follows = record { made = refl; sound = sound };
+    segment = λ none. cc none;
   };
 }
