@@ -1,0 +1,9 @@
+pub mod Books
+pub mod Calls
+pub mod Crashes
+pub mod Engine
+pub mod History
+pub mod Keeping
+pub mod Layers
+pub mod Meaning
+pub mod Opening

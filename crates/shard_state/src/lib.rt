@@ -1,0 +1,12 @@
+//! The durable half of an engine over one directory: its manifest, its series file and its segments, without any point in
+//! memory. An entry is added so that a crash at any moment leaves the entries before it, with it or without.
+#![tactic(auto)]
+
+mod closing;
+mod enter;
+mod logs;
+mod prepare;
+
+pub use closing::close;
+pub use logs::Logs;
+pub use prepare::Prepared;
