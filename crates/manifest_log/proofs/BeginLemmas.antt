@@ -1,5 +1,5 @@
 -- What is left where a manifest was begun, or wasn't.
-use Rattle.std.proofs.Common.{◌≡◌, ◌≢◌, ◌⊎◌, inl, inr, ⊎_elim, ℕ, List, [], ◌∷◌, refl, sym, ◌∙◌, subst, arith, length, Option, Vec, Result, Ok, Err, OnErr}
+use Rattle.std.proofs.Common.{◌≡◌, ◌≢◌, ◌⊎◌, inl, inr, ⊎_elim, ℕ, List, [], ◌∷◌, refl, sym, ap, ◌∙◌, subst, arith, length, Option, Vec, Result, Ok, Err, OnErr}
 use Rattle.std.specs.Prelude.{IsSomeAnd}
 use Rattle.std.specs.declared.option.Option.TheVariants.{None, Some}
 use Rattle.std.specs.declared.alloc.Global.{Global}
@@ -12,7 +12,9 @@ use Rattle.shard_disk.proofs.Runs.{goes_on, joins, weakens}
 use Rattle.shard_disk.specs.declared.damage.Damage.{Damage}
 use Rattle.gate_log.specs.declared.log.Gate.{Gate}
 use Rattle.gate_log.specs.Damage.{IsDamaged, IsLog, bodies}
-use Rattle.gate_log.specs.Log.{FoundBy, HasGate, IsPlaced, Stands}
+use Rattle.gate_log.specs.Log.{EndsBy, FoundBy, HasGate, IsPlaced, Stands}
+use Rattle.gate_log.specs.declared.log.Gate.TheVariants.{Shut, Missing, InDoubt}
+use Rattle.shard_disk.proofs.Everywhere.{file_weaker}
 use Rattle.gate_log.specs.Records.{AllFit, IsClosed, Spells}
 use Rattle.gate_log.proofs.Images.{shut_has}
 use Rattle.gate_log.proofs.Unique.{found_log, one_log, undamaged}
@@ -123,6 +125,11 @@ can_be_next tells files handed looked same none can =
 
 -- ---- what a manifest that was begun gives to its first edit
 
+found_ends : (gate : Gate) (records : List (List ℕ)) (bytes : List ℕ) → Spells records (FoundBy gate) bytes → Spells records (EndsBy gate None) bytes
+found_ends Shut records bytes found = found
+found_ends Missing records bytes found = record { rest = found.rest; spelling = found.spelling; ending = let none : length found.rest ≡ 0 = ap length found.ending in omega (arith, none) }
+found_ends InDoubt records bytes found = absurd found.ending
+
 module _ (tells : Type 0) (told : tells) (begun : Manifest) (files files' : Files) (crashes crashes' : Crashes) (handed handed' : HandedOut) (begins : Begins tells begun files files' crashes crashes' handed handed') where
   pub begun_file : begun.log.file ≡ manifest
   begun_file = ⊎_elim (λ as_it_is. as_it_is.log.file) (λ new. new.file) begins
@@ -144,16 +151,27 @@ module _ (tells : Type 0) (told : tells) (begun : Manifest) (files files' : File
       (λ new. shut_has begun.log new.log.shut)
       begins
 
+  -- it has no edit, as its file reads
+  begun_reads : (begun.log.end ≡ 0) × HasFile files' begun.log.file (Spells [] (EndsBy begun.log.gate None))
+  begun_reads = ⊎_elim
+      (λ as_it_is. (
+        as_it_is.log.place,
+        subst (λ (n : ℕ). HasFile files' n (Spells [] (EndsBy begun.log.gate None))) (sym as_it_is.log.file)
+            (file_weaker manifest (Spells [] (FoundBy begun.log.gate)) (Spells [] (EndsBy begun.log.gate None)) (λ bytes is. found_ends begun.log.gate [] bytes is) files' (as_it_is.log.found told)),
+      ))
+      (λ new. let stands = new.log.stands told in (stands.place, stands.file.read))
+      begins
+
   -- changes that may be made of a directory that names nothing are its first edit
-  pub first_follows : (changes : List Change) (next : Directory) → (keys files ≡ []) ⊎ ((image : Files) → crashes.now image → IsPresent image manifest) → FollowsIn empty changes next → next.segments ≢ []
-      → CanFollow changes begun files' crashes'
-  first_follows changes next had follows segment = record {
+  pub first_follows : (changes : List Change) (next : Directory) → FollowsIn empty changes next → next.segments ≢ [] → CanFollow changes begun files'
+  first_follows changes next follows segment = record {
     edits = [];
     doubt = None;
     directory = empty;
     next = next;
     lead = record { written = tt; leave = refl };
-    stands = begun_stands had;
+    place = begun_reads.0;
+    reads = begun_reads.1;
     follows = follows;
     segment = segment;
   }

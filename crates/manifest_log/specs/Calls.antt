@@ -1,13 +1,14 @@
 -- What are a manifest's log and its edits?
-use Rattle.std.specs.Prelude.{◌≡◌, ◌≢◌, ◌⊎◌, ℕ, ◌≤◌, List, [], Option}
+use Rattle.std.specs.Prelude.{◌≡◌, ◌≢◌, ◌⊎◌, ℕ, ◌≤◌, List, [], length, Option}
 use Rattle.std.specs.FinMap.{keys}
 use Rattle.shard_disk.specs.Crash.{Crashes}
-use Rattle.shard_disk.specs.Directory.{Anything, ChangesAt, IsPresent, MadeOrNot, Vanishes}
+use Rattle.shard_disk.specs.Directory.{Anything, ChangesAt, HasFile, IsPresent, MadeOrNot, Vanishes}
 use Rattle.shard_disk.specs.Directory.{Directory as Files}
 use Rattle.shard_disk.specs.HandedOut.{HandedOut, SkipsNumbers}
 use Rattle.gate_log.specs.Calls.Make.{Makes, NeverMade}
 use Rattle.gate_log.specs.Calls.Read.{Reads}
-use Rattle.gate_log.specs.Log.{Stands}
+use Rattle.gate_log.specs.Log.{EndsBy}
+use Rattle.gate_log.specs.Records.{Spells, spelled}
 use Rattle.manifest_log.specs.declared.change.Change.{Change}
 use Rattle.manifest_log.specs.declared.directory.Directory.{Directory}
 use Rattle.manifest_log.specs.declared.manifest.Manifest.{Manifest}
@@ -60,20 +61,21 @@ pub record BeginsNone (tells memory : Type 0) (files files' : Files) (crashes cr
   pub others : tells → ChangesAt handed.next_number Anything files files'
   pub gone : tells → memory → ChangesAt handed.next_number (MadeOrNot Vanishes) files files'
 
--- some edits stand, which leave a directory that these changes may follow, and then it names a segment
-pub record CanFollow (changes : List Change) (old : Manifest) (files : Files) (crashes : Crashes) : Type 0 where
+-- the log has some edits, as its file reads, which leave a directory that these changes may follow, and then it names a segment
+pub record CanFollow (changes : List Change) (old : Manifest) (files : Files) : Type 0 where
   pub edits : List (List Change)
   pub doubt : Option (List ℕ)
   pub directory : Directory
   pub next : Directory
   pub lead : Lead edits directory
-  pub stands : Stands files crashes old.log (bodies_of edits) doubt
+  pub place : old.log.end ≡ length (spelled (bodies_of edits))
+  pub reads : HasFile files old.log.file (Spells (bodies_of edits) (EndsBy old.log.gate doubt))
   pub follows : Follows directory changes next
   pub segment : next.segments ≢ []
 
 -- the body is of an edit that can be written and may be made
-pub record MayFollow (tells : Type 0) (body : List ℕ) (old : Manifest) (files : Files) (crashes : Crashes) : Type 0 where
+pub record MayFollow (tells : Type 0) (body : List ℕ) (old : Manifest) (files : Files) : Type 0 where
   pub changes : List Change
   pub written : IsWritable changes
   pub are : body ≡ edit_bytes changes
-  pub follows : tells → CanFollow changes old files crashes
+  pub follows : tells → CanFollow changes old files

@@ -88,7 +88,7 @@ impl Manifest {
     /// Makes the changes of an edit, durably and together. After a fault it is made or not, as `in_doubt` tells: where it
     /// answers false the edit isn't made. It takes no memory.
     pub fn edit<D: Disk>(&mut self, disk: &mut D, frame: &Frame) -> Result<(), Trouble>
-        requires may { MayFollow (IsTrue D.tells) frame.now self.old (D.files disk.old) (D.crashes disk.old) }
+        requires may { MayFollow (IsTrue D.tells) frame.now self.old (D.files disk.old) }
         requires placed { IsTrue D.tells → IsPlaced (D.files disk.old) self.old.log }
         ensures { Appends D.Disk frame.now self.old.log self.new.log disk.old disk.new result }
     {
