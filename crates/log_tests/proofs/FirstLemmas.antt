@@ -36,7 +36,7 @@ unfolding IsDistinct
 sound = record { once = ((refl, tt), ((tt, tt))); ages = tt; below = tt }
 
 pub first_may : (tells : Type 0) (changes : List Change) (body : List ℕ) (begun : Manifest) (files : Files) (crashes : Crashes) → changes ≡ AddSegment 1 ∷ SetFloor 0 ∷ [] → body ≡ edit_bytes changes → (tells → Stands files crashes begun.log [] None)
-    → MayFollow tells body begun files crashes
+    → MayFollow tells body begun files
 first_may tells changes body begun files crashes is framed stands = record {
   changes = AddSegment 1 ∷ SetFloor 0 ∷ [];
   written = writable;
@@ -47,7 +47,9 @@ first_may tells changes body begun files crashes is framed stands = record {
     directory = nothing;
     next = record nothing { segments = 1 ∷ [] };
     lead = record { written = tt; leave = refl };
-    stands = stands t;
+    place = (stands t).place;
+    reads = (stands t).file.read;
     follows = record { made = refl; sound = sound };
+    segment = λ none. cc none;
   };
 }

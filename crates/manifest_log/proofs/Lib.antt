@@ -2,6 +2,7 @@ pub mod ChangeLemmas
 pub mod EditLemmas
 pub mod SoundLemmas
 pub mod ApplyLemmas
+pub mod BeginLemmas
 pub mod FollowLemmas
 pub mod FoldLemmas
 pub mod LookLemmas

@@ -1,13 +1,13 @@
 -- A disk is read in one way: its file 0 is the manifest of one directory at most, and then nothing is wrong with it.
-use Rattle.std.proofs.Common.{◌≡◌, ◌≢◌, ◌⊎◌, inl, inr, ℕ, List, [], ◌∷◌, ◌++◌, refl, sym, ap, ◌∙◌, subst, arith, length, ⊎_elim, Option, Some, None, IsSome, Result, Ok, Err}
-use Rattle.std.specs.FinMap.{get, keys}
+use Rattle.std.proofs.Common.{◌≡◌, ◌≢◌, ℕ, List, [], ◌∷◌, refl, sym, ap, ◌∙◌, subst, arith, ⊎_elim, Option, Some, None, IsSome, Result, Ok, Err}
+use Rattle.std.specs.FinMap.{get}
 use Rattle.std.specs.List.{AllByRecursion}
 use Rattle.std.specs.Option.{IsSomeAnd}
 use Rattle.shard_disk.specs.declared.damage.Damage.{Damage}
 use Rattle.shard_disk.specs.Crash.{Crashes}
 use Rattle.shard_disk.specs.Directory.{Directory as Files}
 use Rattle.shard_disk.specs.Directory.{HasFile}
-use Rattle.gate_log.specs.Damage.{IsDamaged, IsLog}
+use Rattle.gate_log.specs.Damage.{IsLog}
 use Rattle.gate_log.specs.Following.{IsExact, IsFileOf, Leads}
 use Rattle.gate_log.specs.Following as wrong_log
 use Rattle.gate_log.specs.Log.{Stands}
@@ -19,8 +19,8 @@ use Rattle.gate_log.proofs.FollowingLemmas as following
 use Rattle.manifest_log.specs.declared.change.Change.{Change}
 use Rattle.manifest_log.specs.declared.directory.Directory.{Directory}
 use Rattle.manifest_log.specs.Found.{HasNoManifest}
-use Rattle.manifest_log.specs.Format.{edit_bytes, IsWritable}
-use Rattle.manifest_log.specs.Edits.{Follows, Leave, all_changed, empty}
+use Rattle.manifest_log.specs.Format.{IsWritable}
+use Rattle.manifest_log.specs.Edits.{Leave, all_changed, empty}
 use Rattle.manifest_log.specs.Reading.{HasNoSegment, IsFresh, IsManifest, IsWrong, Lead, Reads, Takes, bodies_of, manifest_grammar}
 use Rattle.manifest_log.proofs.EditLemmas.{same_edit}
 use Rattle.manifest_log.proofs.LookLemmas.{none_there}
@@ -143,14 +143,3 @@ one_reading files (Ok (Some d)) (Err e) a b = absurd (named_never files d e a b)
 one_reading files (Err e) (Ok None) a b = absurd (fresh_never files e b a)
 one_reading files (Err e) (Ok (Some d)) a b = absurd (named_never files d e b a)
 one_reading files (Err e) (Err f) a b = ap (λ (x : Damage). Err x) (one_damage files e f a b)
-
--- ---- a fresh disk
-
-pub fresh_records : (files : Files) (P : List ℕ → Type 0) (records : List (List ℕ)) → ((bytes : List ℕ) → P bytes → IsLog records bytes) → IsFresh files → HasFile files 0 P → records ≡ []
-fresh_records files P records leads fresh found = ⊎_elim
-    (λ nothing. absurd (none_there files nothing (some_of P (get files 0) found)))
-    (λ log. at_file files (IsLog []) P log found (λ bytes none is. one_log records [] bytes (leads bytes is) none))
-    fresh
-
-pub fresh_undamaged : (files : Files) (damage : Damage) → IsFresh files → HasFile files 0 (IsDamaged damage 0) → ⊥
-fresh_undamaged files damage fresh bad = fresh_file files (IsDamaged damage 0) fresh bad (λ bytes log is. fresh_wrong bytes damage log (inl (inl is)))

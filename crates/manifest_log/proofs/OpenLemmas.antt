@@ -1,5 +1,5 @@
 -- What the file of a manifest is read as.
-use Rattle.std.proofs.Common.{◌≡◌, ◌≢◌, ℕ, ◌≤◌, List, [], ◌∷◌, length, Bool, true, false, ◌&&◌, nat_le, refl, sym, ap, ◌∙◌, subst, arith, inl, inr, Vec, None, Option, Some, if◌then◌else◌}
+use Rattle.std.proofs.Common.{◌≡◌, ◌≢◌, ℕ, ◌≤◌, List, [], ◌∷◌, length, Bool, true, false, ◌&&◌, nat_le, refl, sym, subst, arith, inl, inr, Vec, None, Option, Some, if◌then◌else◌}
 use Rattle.std.specs.Option.{option_and_then}
 use Rattle.std.proofs.lemmas.Bool.Decides.{nat_tests}
 use Rattle.std.specs.declared.alloc.Global.{Global}
@@ -80,7 +80,7 @@ both_true false b is = cc is
 floor_changed : (change : Change) (old new : Directory) → old.floor ≤ last_number → changed old change ≡ Some new → new.floor ≤ last_number
 floor_changed (AddSegment number) old new low is = kept true _ new low is
 floor_changed (ForgetSegment number) old new low is = kept (has_segment number old) _ new low is
-floor_changed (AddFile number generation sequence level points most_entries tomb) old new low is = kept (nat_le 1 level && nat_le level 4) _ new low is
+floor_changed (AddFile number generation sequence level points most_entries tomb) old new low is = kept (nat_le 1 level && (nat_le level 4 && nat_le generation last_number)) _ new low is
 floor_changed (RemoveFile number) old new low is = kept (has_file number old) _ new low is
 floor_changed (NameTombs number tomb) old new low is = kept (has_file number old) _ new low is
 floor_changed (SetFloor number) old new low is =

@@ -1,18 +1,20 @@
 -- What are a manifest's log and its edits?
-use Rattle.std.specs.Prelude.{◌≡◌, ◌≢◌, ◌⊎◌, ℕ, ◌≤◌, List, [], ◌∷◌, Option, None}
+use Rattle.std.specs.Prelude.{◌≡◌, ◌≢◌, ◌⊎◌, ℕ, ◌≤◌, List, [], length, Option}
 use Rattle.std.specs.FinMap.{keys}
 use Rattle.shard_disk.specs.Crash.{Crashes}
-use Rattle.shard_disk.specs.Directory.{Appears, ChangesAt, IsPresent, MadeOrNot}
+use Rattle.shard_disk.specs.Directory.{Anything, ChangesAt, HasFile, IsPresent, MadeOrNot, Vanishes}
 use Rattle.shard_disk.specs.Directory.{Directory as Files}
-use Rattle.shard_disk.specs.HandedOut.{HandedOut, SkipsNumbers, TakesNumber}
+use Rattle.shard_disk.specs.HandedOut.{HandedOut, SkipsNumbers}
+use Rattle.gate_log.specs.Calls.Make.{Makes, NeverMade}
 use Rattle.gate_log.specs.Calls.Read.{Reads}
-use Rattle.gate_log.specs.Log.{Stands, IsPlaced}
+use Rattle.gate_log.specs.Log.{EndsBy}
+use Rattle.gate_log.specs.Records.{Spells, spelled}
 use Rattle.manifest_log.specs.declared.change.Change.{Change}
 use Rattle.manifest_log.specs.declared.directory.Directory.{Directory}
 use Rattle.manifest_log.specs.declared.manifest.Manifest.{Manifest}
 use Rattle.manifest_log.specs.Format.{edit_bytes, IsWritable}
 use Rattle.manifest_log.specs.Edits.{Follows, IsSound, last_number}
-use Rattle.manifest_log.specs.Reading.{bodies_of, IsFresh, Lead, manifest}
+use Rattle.manifest_log.specs.Reading.{bodies_of, Lead, manifest}
 
 -- The log of file 0 has these edits, one at least, which leave the directory; it names a segment, no file twice, and its floor is
 -- the number of an entry.
@@ -25,38 +27,55 @@ pub record Finds (tells : Type 0) (found : Manifest) (directory : Directory) (fi
   pub sound : IsSound directory
   pub floor : directory.floor ≤ last_number
 
--- A manifest may begin where there is no edit yet: in file 0, or where there is no file at all and the next number is 0.
-pub record MayBegin (files : Files) (handed : HandedOut) : Type 0 where
-  pub fresh : IsFresh files
-  pub first : keys files ≡ [] → handed.next_number ≡ manifest
+-- no reader of a file is out
+abbrev pub HasNoReader : HandedOut → Type 0
+HasNoReader handed = (number : ℕ) → handed.readers number ≡ 0
 
--- The manifest is file 0, and has no edit and none in doubt. Where the file was there before, this is so after a crash too if
--- every crash before would have left it. No other file was touched, and no number went to another.
-pub record Begins (tells : Type 0) (begun : Manifest) (files files' : Files) (crashes crashes' : Crashes) (handed handed' : HandedOut) : Type 0 where
+-- The manifest's number wasn't passed over: it is the next one, or the file is there.
+abbrev pub CanBegin : Type 0 → Files → HandedOut → Type 0
+CanBegin tells files handed = (handed.next_number ≡ manifest) ⊎ (tells × IsPresent files manifest)
+
+-- file 0 as it is: a log without a record
+pub record GoesOn (tells : Type 0) (begun : Manifest) (files files' : Files) (crashes crashes' : Crashes) (handed handed' : HandedOut) : Type 0 where
+  pub there : tells → IsPresent files manifest
+  pub log : Reads tells manifest begun.log [] files' crashes crashes'
+  pub same : files' ≡ files
+  pub handed_out : handed' ≡ handed
+
+-- file 0 is new: the first file of the directory
+pub record IsNew (tells : Type 0) (begun : Manifest) (files files' : Files) (crashes' : Crashes) (handed handed' : HandedOut) : Type 0 where
+  pub none : tells → keys files ≡ []
   pub file : begun.log.file ≡ manifest
-  pub placed : tells → IsPlaced files' begun.log
-  pub stands : tells → (keys files ≡ []) ⊎ ((image : Files) → crashes.now image → IsPresent image manifest) → Stands files' crashes' begun.log [] None
-  pub made : tells → ChangesAt manifest (MadeOrNot (Appears (0 ∷ []))) files files'
-  pub number : (handed' ≡ handed) ⊎ TakesNumber manifest handed handed'
+  pub log : Makes tells begun.log files files' crashes' handed handed'
 
--- The files are the same, so that a manifest may begin at another opening. Numbers may have been passed over.
-pub record BeginsNone (tells : Type 0) (files files' : Files) (handed handed' : HandedOut) : Type 0 where
-  pub same : tells → files' ≡ files
-  pub number : tells → SkipsNumbers handed handed'
+-- a manifest without an edit
+abbrev pub Begins : Type 0 → Manifest → Files → Files → Crashes → Crashes → HandedOut → HandedOut → Type 0
+Begins tells begun files files' crashes crashes' handed handed' = GoesOn tells begun files files' crashes crashes' handed handed' ⊎ IsNew tells begun files files' crashes' handed handed'
 
--- some edits stand, which leave a directory that these changes may follow
-pub record CanFollow (changes : List Change) (old : Manifest) (files : Files) (crashes : Crashes) : Type 0 where
+-- Where the manifest's number wasn't passed over the files are as they were, and after want of memory all is, so that another
+-- call can go on. Else a fault may leave a file of the next number, and want of memory leaves none.
+pub record BeginsNone (tells memory : Type 0) (files files' : Files) (crashes crashes' : Crashes) (handed handed' : HandedOut) : Type 0 where
+  pub same : CanBegin tells files handed → files' ≡ files
+  pub skips : CanBegin tells files handed → SkipsNumbers handed handed'
+  pub never : CanBegin tells files handed → memory → NeverMade crashes crashes' handed handed'
+  pub others : tells → ChangesAt handed.next_number Anything files files'
+  pub gone : tells → memory → ChangesAt handed.next_number (MadeOrNot Vanishes) files files'
+
+-- the log has some edits, as its file reads, which leave a directory that these changes may follow, and then it names a segment
+pub record CanFollow (changes : List Change) (old : Manifest) (files : Files) : Type 0 where
   pub edits : List (List Change)
   pub doubt : Option (List ℕ)
   pub directory : Directory
   pub next : Directory
   pub lead : Lead edits directory
-  pub stands : Stands files crashes old.log (bodies_of edits) doubt
+  pub place : old.log.end ≡ length (spelled (bodies_of edits))
+  pub reads : HasFile files old.log.file (Spells (bodies_of edits) (EndsBy old.log.gate doubt))
   pub follows : Follows directory changes next
+  pub segment : next.segments ≢ []
 
 -- the body is of an edit that can be written and may be made
-pub record MayFollow (tells : Type 0) (body : List ℕ) (old : Manifest) (files : Files) (crashes : Crashes) : Type 0 where
+pub record MayFollow (tells : Type 0) (body : List ℕ) (old : Manifest) (files : Files) : Type 0 where
   pub changes : List Change
   pub written : IsWritable changes
   pub are : body ≡ edit_bytes changes
-  pub follows : tells → CanFollow changes old files crashes
+  pub follows : tells → CanFollow changes old files

@@ -25,14 +25,14 @@ has_segment number directory = list_any (λ segment. segment == number) director
 abbrev pub has_file : ℕ → Directory → Bool
 has_file number directory = list_any (λ (row : FileRow). row.no == number) directory.files
 
--- What a change makes of a directory, where it names what is there and its numbers are such: a level of 1 to 4, and a floor
--- that doesn't fall and is the number of an entry.
+-- What a change makes of a directory, where it names what is there and its numbers are such: a level of 1 to 4, a generation
+-- that is the number of an entry, and a floor that is one and doesn't fall.
 abbrev pub changed : Directory → Change → Option Directory
 changed directory (AddSegment number) = Some (record directory { segments = directory.segments ++ number ∷ [] })
 changed directory (ForgetSegment number) =
     if has_segment number directory then Some (record directory { segments = filter (λ segment. not (segment == number)) directory.segments }) else None
 changed directory (AddFile number generation sequence level points most_entries tomb) =
-    if nat_le 1 level && nat_le level 4 then Some (record directory {
+    if nat_le 1 level && (nat_le level 4 && nat_le generation last_number) then Some (record directory {
       files = directory.files ++ record { no = number; generation = generation; sequence = sequence; level = level; points = points; most_entries = most_entries; tomb = tomb; holds = 0; busy = Bool.false } ∷ [];
     }) else None
 changed directory (RemoveFile number) =

@@ -41,7 +41,7 @@ fn make(directory: &mut Directory, change: &Change) -> Result<bool, AllocError>
             most_entries,
             tomb,
         } => {
-            if level < 1 || 4 < level {
+            if level < 1 || 4 < level || LAST_NUMBER < generation {
                 return Ok(false);
             }
             directory.files.push(FileRow {

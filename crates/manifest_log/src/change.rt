@@ -13,8 +13,8 @@ pub enum Change {
     ForgetSegment {
         no: u32,
     },
-    /// A TSM file, with its row. Its generation is at most the floor that the edit leaves, its level 1 to 4, and the
-    /// number of its tombstone file below 4294967295.
+    /// A TSM file, with its row. Its generation is at most 9223372036854775807 and at most the floor that the edit
+    /// leaves, its level 1 to 4, and the number of its tombstone file below 4294967295.
     AddFile {
         no: u32,
         generation: u64,

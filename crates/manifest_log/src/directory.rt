@@ -1,7 +1,8 @@
-ghost use Rattle.std.specs.Prelude.{◌≡◌, ◌==◌, not, filter, ◌++◌, ◌∷◌, [], OnOk, Some, if◌then◌else◌};
+ghost use Rattle.std.specs.Prelude.{◌≡◌, ◌==◌, not, filter, ◌++◌, ◌∷◌, [], IfOk, OnOk, Some, if◌then◌else◌};
 ghost use Rattle.std.specs.List.{list_any};
 ghost use Rattle.file_table.specs.Calls.{rows_with_tomb};
 
+use crate::sound::names_of;
 use file_table::FileRow;
 use std::alloc::{AllocError, Global};
 use std::marker::Model;
@@ -162,7 +163,14 @@ pub struct Directory {
 }
 
 impl Directory {
-    ghost use Rattle.manifest_log.specs.Edits.{empty};
+    ghost use Rattle.manifest_log.specs.Edits.{empty, names};
+
+    /// The manifest, which is file 0, and every file that the directory names.
+    pub fn names(&self, alloc: Global) -> Result<Vec<u64>, AllocError>
+        ensures { IfOk result (λ all. all.items ≡ 0 ∷ names self.now) }
+    {
+        names_of(alloc, self)
+    }
 
     /// A directory that names nothing.
     pub(crate) fn new(alloc: Global) -> Directory

@@ -1,7 +1,7 @@
-ghost use Rattle.std.specs.Prelude.{◌≡◌, Err, IsTrue, IfOk, IsErrOf};
+ghost use Rattle.std.specs.Prelude.{◌≡◌, Err, IsTrue, IfOk};
 ghost use Rattle.shard_disk.specs.Crash.{Leaves, Same};
-ghost use Rattle.shard_disk.specs.Health.{Ages, Failed};
 ghost use Rattle.shard_disk.specs.declared.damage.Damage.{Damage};
+ghost use Rattle.gate_log.specs.Faults.{LogHasCause};
 ghost use Rattle.manifest_log.specs.Found.{IsFound};
 
 use gate_log::LogFault;
@@ -21,11 +21,10 @@ pub enum Found {
 pub fn look<D: Disk>(disk: &mut D) -> Result<Found, LogFault>
     ensures ok { IfOk result (λ found. IsTrue D.tells → IsFound found (D.files disk.old)) }
     ensures undamaged { (damage : Damage) → result ≡ Err (LogFault.Damaged damage) → ⊥ }
-    ensures fault { IsErrOf result LogFault.Fault → Failed (D.health disk.old) (D.health disk.new) }
+    ensures fault { LogHasCause result (D.health disk.old) (D.health disk.new) }
     ensures files { D.files disk.new ≡ D.files disk.old }
     ensures crash { Leaves Same (D.crashes disk.old) (D.crashes disk.new) }
     ensures handed_out { D.handed_out disk.new ≡ D.handed_out disk.old }
-    ensures ages { Ages (D.health disk.old) (D.health disk.new) }
 {
     let numbers = disk.list()?;
     if numbers.contains(&0) {

@@ -1,11 +1,10 @@
 ghost use Rattle.std.specs.Prelude.{◌≡◌, ◌∷◌, [], ◌↔◌, Err, IsTrue, IfOk, IfSome, IfNone, IsErrOf, OnErr};
 ghost use Rattle.shard_disk.specs.Crash.{Leaves, Same};
-ghost use Rattle.shard_disk.specs.Directory.{Appears, ChangesAt, MadeOrNot};
-ghost use Rattle.shard_disk.specs.Health.{Ages, Failed};
+ghost use Rattle.shard_disk.specs.Directory.{Anything, Appears, ChangesAt, MadeOrNot};
 ghost use Rattle.shard_disk.specs.declared.damage.Damage.{Damage};
 
 use crate::look::{Found, look};
-use crate::opening::{make, read_file};
+use crate::opening::{go_on, make, read_file};
 use crate::put::edit_of;
 use crate::read::damage;
 use crate::{Directory, Edit};
@@ -22,8 +21,9 @@ pub struct Manifest {
 impl Manifest {
     ghost use Rattle.gate_log.specs.Calls.Append.{Appends};
     ghost use Rattle.gate_log.specs.Calls.Settle.{Settling};
+    ghost use Rattle.gate_log.specs.Faults.{LogHasCause};
     ghost use Rattle.gate_log.specs.Log.{IsInDoubt, IsPlaced};
-    ghost use Rattle.manifest_log.specs.Calls.{Begins, BeginsNone, Finds, MayBegin, MayFollow};
+    ghost use Rattle.manifest_log.specs.Calls.{Begins, BeginsNone, CanBegin, Finds, HasNoReader, MayFollow};
     ghost use Rattle.manifest_log.specs.Format.{IsWritable, edit_bytes};
     ghost use Rattle.manifest_log.specs.Reading.{IsFresh, Reads, manifest};
 
@@ -36,12 +36,11 @@ impl Manifest {
             (D.files disk.old) (D.crashes disk.old) (D.crashes disk.new))) }
         ensures none { IfOk result (λ read. IfNone read (IsTrue D.tells → IsFresh (D.files disk.old))) }
         ensures damaged { (damage : Damage) → result ≡ Err (LogFault.Damaged damage) → IsTrue D.tells → Reads (D.files disk.old) (Err damage) }
-        ensures fault { IsErrOf result LogFault.Fault → Failed (D.health disk.old) (D.health disk.new) }
+        ensures fault { LogHasCause result (D.health disk.old) (D.health disk.new) }
 
         ensures files { D.files disk.new ≡ D.files disk.old }
         ensures crash { Leaves Same (D.crashes disk.old) (D.crashes disk.new) }
         ensures handed_out { D.handed_out disk.new ≡ D.handed_out disk.old }
-        ensures ages { Ages (D.health disk.old) (D.health disk.new) }
     {
         match look(disk)? {
             Found::Nothing => Ok(None),
@@ -50,29 +49,30 @@ impl Manifest {
         }
     }
 
-    /// A manifest without an edit, where `read` answers `None`: file 0 as it is, or made where there is none. A refusal leaves
-    /// the files as they were. After a fault in making file 0 its number is passed over, so that only another opening of the
-    /// disk can make it.
+    /// A manifest without an edit, where `read` answers `None`: file 0 as it is, or made where there is none. After a refusal
+    /// another call can go on. After a fault in making file 0 its number may be passed over: then only another opening of the
+    /// disk can make it, and a call here answers want of memory and leaves no file that it made.
     pub fn begin<D: Disk>(alloc: Global, disk: &mut D) -> Result<Manifest, LogFault>
-        requires { IsTrue D.tells → MayBegin (D.files disk.old) (D.handed_out disk.old) }
+        requires fresh { IsTrue D.tells → IsFresh (D.files disk.old) }
+        requires unread { HasNoReader (D.handed_out disk.old) }
 
         ensures ok { IfOk result (λ begun. Begins (IsTrue D.tells) begun (D.files disk.old) (D.files disk.new)
             (D.crashes disk.old) (D.crashes disk.new) (D.handed_out disk.old) (D.handed_out disk.new)) }
-        ensures refused { OnErr result (BeginsNone (IsTrue D.tells) (D.files disk.old) (D.files disk.new) (D.handed_out disk.old) (D.handed_out disk.new)) }
+        ensures refused { OnErr result (BeginsNone (IsTrue D.tells) (IsErrOf result LogFault.Memory) (D.files disk.old) (D.files disk.new)
+            (D.crashes disk.old) (D.crashes disk.new) (D.handed_out disk.old) (D.handed_out disk.new)) }
         ensures damaged { (damage : Damage) → result ≡ Err (LogFault.Damaged damage) → IsTrue D.tells → ⊥ }
-        ensures fault { IsErrOf result LogFault.Fault → Failed (D.health disk.old) (D.health disk.new) }
+        ensures fault { LogHasCause result (D.health disk.old) (D.health disk.new) }
 
         // A crash at any moment of the call leaves file 0 as it was or new and whole, and nothing else changed.
-        ensures crash { IsTrue D.tells → Leaves (ChangesAt manifest (MadeOrNot (Appears (0 ∷ [])))) (D.crashes disk.old) (D.crashes disk.new) }
-        ensures ages { Ages (D.health disk.old) (D.health disk.new) }
+        ensures crash { IsTrue D.tells → CanBegin (IsTrue D.tells) (D.files disk.old) (D.handed_out disk.old)
+            → Leaves (ChangesAt manifest (MadeOrNot (Appears (0 ∷ [])))) (D.crashes disk.old) (D.crashes disk.new) }
+        // Where the number of file 0 was passed over, it leaves nothing changed but the file of the next number.
+        ensures others { IsTrue D.tells → Leaves (ChangesAt (D.handed_out disk.old).next_number Anything) (D.crashes disk.old) (D.crashes disk.new) }
     {
         match look(disk)? {
-            Found::Manifest => {
-                let (log, _) = Log::read(alloc, disk, 0)?;
-                Ok(Manifest { log })
-            }
+            Found::Manifest => go_on(alloc, disk),
             Found::Nothing => make(disk),
-            Found::Others => make(disk),
+            Found::Others => Err(damage(0, Why::NoManifest)),
         }
     }
 
@@ -88,7 +88,7 @@ impl Manifest {
     /// Makes the changes of an edit, durably and together. After a fault it is made or not, as `in_doubt` tells: where it
     /// answers false the edit isn't made. It takes no memory.
     pub fn edit<D: Disk>(&mut self, disk: &mut D, frame: &Frame) -> Result<(), Trouble>
-        requires may { MayFollow (IsTrue D.tells) frame.now self.old (D.files disk.old) (D.crashes disk.old) }
+        requires may { MayFollow (IsTrue D.tells) frame.now self.old (D.files disk.old) }
         requires placed { IsTrue D.tells → IsPlaced (D.files disk.old) self.old.log }
         ensures { Appends D.Disk frame.now self.old.log self.new.log disk.old disk.new result }
     {

@@ -1,11 +1,12 @@
 ghost use Rattle.std.specs.Prelude.{◌≡◌, ◌∷◌, [], Err, IsTrue, IfOk, IfSome, IfNone, IsErrOf, OnErr};
+ghost use Rattle.std.specs.FinMap.{keys};
 ghost use Rattle.shard_disk.specs.Crash.{Leaves, Same};
-ghost use Rattle.shard_disk.specs.Directory.{Appears, ChangesAt, HasFile, IsPresent, MadeOrNot};
-ghost use Rattle.shard_disk.specs.Health.{Ages, Failed};
+ghost use Rattle.shard_disk.specs.Directory.{Anything, Appears, ChangesAt, HasFile, IsPresent, MadeOrNot};
 ghost use Rattle.shard_disk.specs.declared.damage.Damage.{Damage};
 ghost use Rattle.gate_log.specs.Calls.Make.{Makes};
 ghost use Rattle.gate_log.specs.Damage.{IsLog};
-ghost use Rattle.manifest_log.specs.Calls.{BeginsNone, Finds};
+ghost use Rattle.gate_log.specs.Faults.{LogHasCause};
+ghost use Rattle.manifest_log.specs.Calls.{BeginsNone, Finds, GoesOn, HasNoReader, IsNew};
 ghost use Rattle.manifest_log.specs.Reading.{IsWrong};
 
 use crate::read::{damage, directory_of};
@@ -24,11 +25,10 @@ pub fn read_file<D: Disk>(
         (D.files disk.old) (D.crashes disk.old) (D.crashes disk.new))) }
     ensures none { IfOk result (λ read. IfNone read (IsTrue D.tells → HasFile (D.files disk.old) 0 (IsLog []))) }
     ensures damaged { (damage : Damage) → result ≡ Err (LogFault.Damaged damage) → IsTrue D.tells → HasFile (D.files disk.old) 0 (IsWrong damage) }
-    ensures fault { IsErrOf result LogFault.Fault → Failed (D.health disk.old) (D.health disk.new) }
+    ensures fault { LogHasCause result (D.health disk.old) (D.health disk.new) }
     ensures files { D.files disk.new ≡ D.files disk.old }
     ensures crash { Leaves Same (D.crashes disk.old) (D.crashes disk.new) }
     ensures handed_out { D.handed_out disk.new ≡ D.handed_out disk.old }
-    ensures ages { Ages (D.health disk.old) (D.health disk.new) }
 {
     let (log, records) = Log::read(alloc, disk, 0)?;
     if records.is_empty() {
@@ -41,18 +41,39 @@ pub fn read_file<D: Disk>(
     Ok(Some((Manifest { log }, directory)))
 }
 
-/// Makes the manifest's file, where the next number is 0. On another disk it makes none that counts.
+/// The manifest of a file that has no record. The disk was read so before: another answer is damage.
+pub fn go_on<D: Disk>(alloc: Global, disk: &mut D) -> Result<Manifest, LogFault>
+    requires { IsTrue D.tells → HasFile (D.files disk.old) 0 (IsLog []) }
+    ensures ok { IfOk result (λ begun. GoesOn (IsTrue D.tells) begun (D.files disk.old) (D.files disk.new) (D.crashes disk.old) (D.crashes disk.new) (D.handed_out disk.old) (D.handed_out disk.new)) }
+    ensures undamaged { (damage : Damage) → result ≡ Err (LogFault.Damaged damage) → IsTrue D.tells → ⊥ }
+    ensures fault { LogHasCause result (D.health disk.old) (D.health disk.new) }
+    ensures files { D.files disk.new ≡ D.files disk.old }
+    ensures crash { Leaves Same (D.crashes disk.old) (D.crashes disk.new) }
+    ensures handed_out { D.handed_out disk.new ≡ D.handed_out disk.old }
+{
+    let (log, records) = Log::read(alloc, disk, 0)?;
+    if !records.is_empty() {
+        return Err(damage(0, Why::Body));
+    }
+    Ok(Manifest { log })
+}
+
+/// Makes the manifest's file, where there is none. Where its number was passed over the file that is made is another, and is
+/// removed again.
 pub fn make<D: Disk>(disk: &mut D) -> Result<Manifest, LogFault>
-    requires { IsTrue D.tells → (D.handed_out disk.old).next_number ≡ 0 }
-    ensures ok { IfOk result (λ begun. (begun.log.file ≡ 0) × Makes (IsTrue D.tells) begun.log (D.files disk.old) (D.files disk.new) (D.crashes disk.new) (D.handed_out disk.old) (D.handed_out disk.new)) }
-    ensures refused { OnErr result (BeginsNone (IsTrue D.tells) (D.files disk.old) (D.files disk.new) (D.handed_out disk.old) (D.handed_out disk.new)) }
+    requires unread { HasNoReader (D.handed_out disk.old) }
+    requires none { IsTrue D.tells → keys (D.files disk.old) ≡ [] }
+    ensures ok { IfOk result (λ begun. IsNew (IsTrue D.tells) begun (D.files disk.old) (D.files disk.new) (D.crashes disk.new) (D.handed_out disk.old) (D.handed_out disk.new)) }
+    ensures refused { OnErr result (BeginsNone (IsTrue D.tells) (IsErrOf result LogFault.Memory)
+        (D.files disk.old) (D.files disk.new) (D.crashes disk.old) (D.crashes disk.new) (D.handed_out disk.old) (D.handed_out disk.new)) }
     ensures undamaged { (damage : Damage) → result ≡ Err (LogFault.Damaged damage) → ⊥ }
-    ensures fault { IsErrOf result LogFault.Fault → Failed (D.health disk.old) (D.health disk.new) }
-    ensures crash { IsTrue D.tells → Leaves (ChangesAt 0 (MadeOrNot (Appears (0 ∷ [])))) (D.crashes disk.old) (D.crashes disk.new) }
-    ensures ages { Ages (D.health disk.old) (D.health disk.new) }
+    ensures fault { LogHasCause result (D.health disk.old) (D.health disk.new) }
+    ensures crash { IsTrue D.tells → (D.handed_out disk.old).next_number ≡ 0 → Leaves (ChangesAt 0 (MadeOrNot (Appears (0 ∷ [])))) (D.crashes disk.old) (D.crashes disk.new) }
+    ensures others { IsTrue D.tells → Leaves (ChangesAt (D.handed_out disk.old).next_number Anything) (D.crashes disk.old) (D.crashes disk.new) }
 {
     let log = Log::make(disk)?;
     if log.file() != 0 {
+        disk.remove(log.file())?;
         return Err(LogFault::Memory);
     }
     Ok(Manifest { log })

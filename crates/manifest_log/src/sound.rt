@@ -38,7 +38,7 @@ fn ages_of(alloc: Global, rows: &[FileRow]) -> Result<Vec<u64>, AllocError>
 }
 
 /// The manifest and every file that the directory names.
-fn names_of(alloc: Global, directory: &Directory) -> Result<Vec<u64>, AllocError>
+pub(crate) fn names_of(alloc: Global, directory: &Directory) -> Result<Vec<u64>, AllocError>
     ensures { IfOk result (λ all. all.items ≡ 0 ∷ names directory.now) }
 {
     let mut all = Vec::new(alloc);
