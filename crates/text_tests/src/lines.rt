@@ -14,28 +14,38 @@ fn is_refused(alloc: Global, rt: &impl Abort, text: &str, wanted: LineCode, at: 
     }
 }
 
-// Each of the lines is refused with this code, and each of its neighbours is read.
-fn parts(rt: &(impl Abort + AllocGlobal), code: LineCode, refused: &[&str], read: &[&str]) {
-    for line in refused {
-        assert!(rt; is_refused(rt.alloc(), rt, line, code, 1), "{line}");
+/// A code, lines that are refused with it, and lines beside them that are read.
+struct Row {
+    code: LineCode,
+    refused: &'static [&'static str],
+    read: &'static [&'static str],
+}
+
+// Each of the lines is refused with the code, and each of its neighbours is read.
+fn parts(rt: &(impl Abort + AllocGlobal), row: &Row) {
+    for line in row.refused {
+        assert!(rt; is_refused(rt.alloc(), rt, line, row.code, 1), "{line}");
     }
-    for line in read {
-        assert!(rt; self::read(rt, rt.alloc(), line).is_ok(), "{line}");
+    for line in row.read {
+        assert!(rt; read(rt, rt.alloc(), line).is_ok(), "{line}");
     }
 }
 
-#[test]
-fn the_head_of_a_line(rt: HostRuntime) {
-    parts(
-        &rt,
-        LineCode::NoMeasurement,
-        &[",a=b v=1i", "  ,a=b v=1i", ",", ", v=1i", ",a=b"],
-        &["\\,a=b v=1i", "\\ m v=1i", "m v=1i", "=,a=b v=1i"],
-    );
-    parts(
-        &rt,
-        LineCode::BadTag,
-        &[
+fn check(rt: &(impl Abort + AllocGlobal), rows: &[Row]) {
+    for row in rows {
+        parts(rt, row);
+    }
+}
+
+const HEADS: [Row; 4] = [
+    Row {
+        code: LineCode::NoMeasurement,
+        refused: &[",a=b v=1i", "  ,a=b v=1i", ",", ", v=1i", ",a=b"],
+        read: &["\\,a=b v=1i", "\\ m v=1i", "m v=1i", "=,a=b v=1i"],
+    },
+    Row {
+        code: LineCode::BadTag,
+        refused: &[
             "m, v=1i",
             "m,a v=1i",
             "m,a= v=1i",
@@ -48,7 +58,7 @@ fn the_head_of_a_line(rt: HostRuntime) {
             "m,a=b,a=c,d v=1i",
             "m,a",
         ],
-        &[
+        read: &[
             "m,a=b v=1i",
             "m,a=b\\=c v=1i",
             "m,a\\==b v=1i",
@@ -56,23 +66,21 @@ fn the_head_of_a_line(rt: HostRuntime) {
             "m,a=\\, v=1i",
             "m=\\,a v=1i",
         ],
-    );
-    parts(
-        &rt,
-        LineCode::DuplicateTag,
-        &[
+    },
+    Row {
+        code: LineCode::DuplicateTag,
+        refused: &[
             "m,a=b,a=c v=1i",
             "m,a=b,a=b v=1i",
             "m,a\\ =b,c=d,a\\ =e v=1i",
             "m,time=b,time=c v=1.5",
             "m,a=b,c=d,a=e",
         ],
-        &["m,a=b,A=b v=1i", "m,a=b,aa=b v=1i", "m,\\a=b,a=b v=1i"],
-    );
-    parts(
-        &rt,
-        LineCode::NoField,
-        &[
+        read: &["m,a=b,A=b v=1i", "m,a=b,aa=b v=1i", "m,\\a=b,a=b v=1i"],
+    },
+    Row {
+        code: LineCode::NoField,
+        refused: &[
             "m",
             "m   ",
             "m,a=b",
@@ -82,16 +90,19 @@ fn the_head_of_a_line(rt: HostRuntime) {
             "m,a=b\\",
             "m\\ \\",
         ],
-        &["m   v=1i", "m,a=b\\ c v=1i", "m\\  v=1i"],
-    );
-}
+        read: &["m   v=1i", "m,a=b\\ c v=1i", "m\\  v=1i"],
+    },
+];
 
 #[test]
-fn the_fields_of_a_line(rt: HostRuntime) {
-    parts(
-        &rt,
-        LineCode::BadField,
-        &[
+fn the_head_of_a_line(rt: HostRuntime) {
+    check(&rt, &HEADS);
+}
+
+const FIELDS: [Row; 4] = [
+    Row {
+        code: LineCode::BadField,
+        refused: &[
             "m =1i",
             "m v",
             "m v=",
@@ -120,7 +131,7 @@ fn the_fields_of_a_line(rt: HostRuntime) {
             "m v=1x,w=1.5",
             "m v=1i\t",
         ],
-        &[
+        read: &[
             "m v=0i",
             "m v=-0i",
             "m v=007u",
@@ -128,11 +139,10 @@ fn the_fields_of_a_line(rt: HostRuntime) {
             "m v=t,w=T,x=true,y=True,z=TRUE",
             "m v=f,w=F,x=false,y=False,z=FALSE",
         ],
-    );
-    parts(
-        &rt,
-        LineCode::FloatValue,
-        &[
+    },
+    Row {
+        code: LineCode::FloatValue,
+        refused: &[
             "m v=1",
             "m v=-1",
             "m v=1.",
@@ -144,45 +154,46 @@ fn the_fields_of_a_line(rt: HostRuntime) {
             "m v=5.e3",
             "m v=1 1i",
         ],
-        &["m 1.5=1i"],
-    );
-    parts(
-        &rt,
-        LineCode::StringValue,
-        &[
+        read: &["m 1.5=1i"],
+    },
+    Row {
+        code: LineCode::StringValue,
+        refused: &[
             "m v=\"a\"",
             "m v=\"",
             "m v=\"a b\"",
             "m v=\"a,c=1.5",
             "m v=\"1i",
         ],
-        &["m \"v\"=1i", "m,a=\"b\" v=1i"],
-    );
-    parts(
-        &rt,
-        LineCode::NumberRange,
-        &[
+        read: &["m \"v\"=1i", "m,a=\"b\" v=1i"],
+    },
+    Row {
+        code: LineCode::NumberRange,
+        refused: &[
             "m v=9223372036854775808i",
             "m v=-9223372036854775809i",
             "m v=18446744073709551616u",
             "m v=99999999999999999999999999i",
             "m v=18446744073709551617i nine",
         ],
-        &[
+        read: &[
             "m v=9223372036854775807i",
             "m v=-9223372036854775808i",
             "m v=18446744073709551615u",
             "m v=00000000000000000000000009223372036854775807i",
         ],
-    );
-}
+    },
+];
 
 #[test]
-fn the_time_and_the_names_of_a_line(rt: HostRuntime) {
-    parts(
-        &rt,
-        LineCode::BadTime,
-        &[
+fn the_fields_of_a_line(rt: HostRuntime) {
+    check(&rt, &FIELDS);
+}
+
+const TIMES_AND_NAMES: [Row; 5] = [
+    Row {
+        code: LineCode::BadTime,
+        refused: &[
             "m v=1i x",
             "m v=1i 1 2",
             "m v=1i +1",
@@ -194,53 +205,54 @@ fn the_time_and_the_names_of_a_line(rt: HostRuntime) {
             "m v=1i 1\\ ",
             "m,time=b v=1i x",
         ],
-        &["m v=1i 1", "m v=1i   -1  ", "m v=1i 0010"],
-    );
-    parts(
-        &rt,
-        LineCode::TimeRange,
-        &[
+        read: &["m v=1i 1", "m v=1i   -1  ", "m v=1i 0010"],
+    },
+    Row {
+        code: LineCode::TimeRange,
+        refused: &[
             "m v=1i 9223372036854775807",
             "m v=1i -9223372036854775807",
             "m v=1i 18446744073709551626",
             "m v=1i -99999999999999999999",
             "m time=1i 9223372036854775807",
         ],
-        &[
+        read: &[
             "m v=1i 9223372036854775806",
             "m v=1i -9223372036854775806",
             "m v=1i -0",
         ],
-    );
-    parts(
-        &rt,
-        LineCode::ReservedName,
-        &[
+    },
+    Row {
+        code: LineCode::ReservedName,
+        refused: &[
             "m,time=b v=1i",
             "m,a=b,time=c v=1i",
             "m time=1i",
             "m v=1i,time=2i,v=t",
             "m#!~#,a=b time=1i",
         ],
-        &[
+        read: &[
             "m,Time=b TIME=1i",
             "time,a=time v=1i",
             "m,times=b tim=1i",
             "m tim\\e=1i",
         ],
-    );
-    parts(
-        &rt,
-        LineCode::MarkInKey,
-        &["m#!~#,a=b v=1i", "m,a=#!~# v=1i", "m#!~ v=1i,v=t"],
-        &["m v#!~#=1i", "m#!,a=b v=1i", "m#!~\\ # v=1i"],
-    );
-    parts(
-        &rt,
-        LineCode::KindInBatch,
-        &["m v=1i,v=t", "m v=1i,w=2i,v=3u", "m v=t,v=1i"],
-        &["m v=1i,v=2i", "m v=1i,V=2u"],
-    );
+    },
+    Row {
+        code: LineCode::MarkInKey,
+        refused: &["m#!~#,a=b v=1i", "m,a=#!~# v=1i", "m#!~ v=1i,v=t"],
+        read: &["m v#!~#=1i", "m#!,a=b v=1i", "m#!~\\ # v=1i"],
+    },
+    Row {
+        code: LineCode::KindInBatch,
+        refused: &["m v=1i,v=t", "m v=1i,w=2i,v=3u", "m v=t,v=1i"],
+        read: &["m v=1i,v=2i", "m v=1i,V=2u"],
+    },
+];
+
+#[test]
+fn the_time_and_the_names_of_a_line(rt: HostRuntime) {
+    check(&rt, &TIMES_AND_NAMES);
 }
 
 #[test]
