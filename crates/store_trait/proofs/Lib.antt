@@ -1,17 +1,17 @@
 mod AcceptLemmas
 mod AloneLemmas
-mod CommitLemmas
-mod ConflictLemmas
-mod FieldLemmas
-mod HeadLemmas
-mod InLemmas
-mod KeyListLemmas
-mod KindLemmas
-mod ListLemmas
-mod MapLemmas
-mod ResultLemmas
-mod RowLemmas
-mod SampleLemmas
+pub mod CommitLemmas
+pub mod ConflictLemmas
+pub mod FieldLemmas
+pub mod HeadLemmas
+pub mod InLemmas
+pub mod KeyListLemmas
+pub mod KindLemmas
+pub mod ListLemmas
+pub mod MapLemmas
+pub mod ResultLemmas
+pub mod RowLemmas
+pub mod SampleLemmas
 mod SettingLemmas
-mod TagLemmas
-mod ViewLemmas
+pub mod TagLemmas
+pub mod ViewLemmas

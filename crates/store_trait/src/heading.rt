@@ -10,9 +10,9 @@ use std::cmp::Ordering;
 use std::marker::Model;
 use tsdb_types::SeriesKey;
 
-// A measurement as the text of its series begins with it. A contract sees its bytes.
+/// A measurement as the text of its series begins with it. A contract sees its bytes.
 #[derive(Debug, Drop)]
-pub(crate) struct Heading {
+pub struct Heading {
     text: Vec<u8>,
 }
 
@@ -25,7 +25,8 @@ impl Model for Heading {
 }
 
 impl Heading {
-    pub(crate) fn new(alloc: Global) -> Heading
+    /// Of no series yet.
+    pub fn new(alloc: Global) -> Heading
         ensures { result ≡ [] }
     {
         Heading {
@@ -33,8 +34,8 @@ impl Heading {
         }
     }
 
-    // Takes the measurement of a series in the place of the one that was read before.
-    pub(crate) fn read(&mut self, series: &SeriesKey) -> Result<(), AllocError>
+    /// Takes the measurement of a series in the place of the one that was read before.
+    pub fn read(&mut self, series: &SeriesKey) -> Result<(), AllocError>
         ensures { OnOk result (self.new ≡ measurement_head series.now) }
     {
         self.text.clear();
@@ -43,14 +44,16 @@ impl Heading {
         Ok(())
     }
 
-    pub(crate) fn carry(&self) -> Result<Heading, AllocError>
+    /// An equal heading.
+    pub fn carry(&self) -> Result<Heading, AllocError>
         ensures { IfOk result (λ heading. heading ≡ self.now) }
     {
         let text = self.text.clone()?;
         Ok(Heading { text })
     }
 
-    pub(crate) fn as_bytes(&self) -> &[u8]
+    /// Its bytes.
+    pub fn as_bytes(&self) -> &[u8]
         ensures { result.now ≡ self.now }
     {
         self.text.as_slice()

@@ -14,6 +14,9 @@ mod store;
 mod tags;
 
 pub use fault::{ViewFault, WriteFault};
+pub use heading::Heading;
 pub use list_view::ListView;
+pub use names::heading_of;
 pub use plain::PlainStore;
 pub use store::{Store, alone_changes_itself};
+pub use tags::add_tag_keys;

@@ -33,8 +33,8 @@ impl ListView {
     ghost use Rattle.std.specs.Prelude.{◌≡◌, length, Some};
     ghost use Rattle.store_trait.specs.Lists.{lists_of};
 
-    // The rows of each key stand in the order in which they are taken from the end.
-    pub(crate) fn new(
+    /// A view of these names, keys and rows. The rows of each key stand in the order in which they are taken from the end.
+    pub fn new(
         number: u64,
         names: Names,
         keys: Vec<(SeriesKey, Name)>,

@@ -12,8 +12,8 @@ use crate::slots::{Slots, value_in};
 use std::alloc::{AllocError, Global};
 use tsdb_types::{Kind, Name, SeriesKey, Tags};
 
-// The measurement as the text of its series begins with it.
-pub(crate) fn heading_of(alloc: Global, measurement: &Name) -> Result<Heading, AllocError>
+/// The measurement as the text of its series begins with it.
+pub fn heading_of(alloc: Global, measurement: &Name) -> Result<Heading, AllocError>
     ensures heading { IfOk result (λ heading. heading ≡ measurement_text measurement.now) }
     ensures name { IsName measurement.now }
 {

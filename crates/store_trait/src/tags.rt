@@ -79,7 +79,8 @@ fn add_series_keys(
     Ok(())
 }
 
-fn add_tag_keys(alloc: Global, series: &SeriesKey, found: &mut Vec<Name>) -> Result<(), AllocError>
+/// Puts the keys of the tags of a series behind those that were found before.
+pub fn add_tag_keys(alloc: Global, series: &SeriesKey, found: &mut Vec<Name>) -> Result<(), AllocError>
     ensures keys { OnOk result (found.new.items ≡ found.old.items ++ keys_in series.now) }
 {
     let (_measurement, tags) = cut(series.text().as_bytes(), b',');
