@@ -1,5 +1,6 @@
-pub mod ListLemmas
+pub mod BatchLemmas
 pub mod FormatLemmas
-pub mod TakeLemmas
 pub mod HoldLemmas
+pub mod ListLemmas
 pub mod OnceLemmas
+pub mod TakeLemmas

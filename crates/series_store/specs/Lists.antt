@@ -1,7 +1,8 @@
 -- Which series do records have, and which id has a series?
-use Rattle.std.specs.Prelude.{◌≡◌, ◌≢◌, ℕ, ◌+◌, ◌^◌, ◌≤◌, nat_eq, List, [], ◌++◌, length, slice_get, Some}
+use Rattle.std.specs.Prelude.{◌≡◌, ◌≢◌, ℕ, ◌+◌, ◌^◌, ◌≤◌, nat_eq, List, [], ◌++◌, length, slice_get, Some, Contains}
 use Rattle.std.specs.List.{AllByRecursion, IsDistinct}
 use Rattle.std.specs.Cmp.Lexicographic.{pointwise}
+use Rattle.tsdb_types.specs.declared.point.Point.{Point}
 use Rattle.gate_log.specs.Following.{Grammar, Leads, plain_grammar}
 use Rattle.series_store.specs.Format.{HasRoom, IsWritable, record_bytes}
 
@@ -37,6 +38,10 @@ series_grammar = plain_grammar Takes
 -- the records hold these series, one list behind the other
 abbrev pub Hold : List (List ℕ) → List (List ℕ) → Type 0
 Hold records series = Leads series_grammar [] records series
+
+-- a point of these is of the series
+abbrev pub IsSeriesOf : List Point → List ℕ → Type 0
+IsSeriesOf points key = (point : Point) × Contains points point × (point.cell.series ≡ key)
 
 -- Series that may be added to those held: each is new and stands once, and all have room in one record and in the file.
 pub record MayAdd (held more : List (List ℕ)) : Type 0 where

@@ -1,9 +1,12 @@
-ghost use Rattle.std.specs.Prelude.{◌≡◌, ◌++◌, ◌∷◌, [], ℕ, List};
-ghost use Rattle.std.specs.List.{AllByRecursion};
+ghost use Rattle.std.specs.Prelude.{◌≡◌, ◌≤◌, ◌^◌, ◌++◌, ◌∷◌, [], ℕ, List, length, nat_eq};
+ghost use Rattle.std.specs.Cmp.Lexicographic.{pointwise};
+ghost use Rattle.std.specs.List.{AllByRecursion, IsDistinct};
 ghost use Rattle.gate_log.specs.Records.{AllFit, IsGated};
 ghost use Rattle.shard_disk.specs.declared.damage.Damage.{Damage};
-ghost use Rattle.series_store.specs.Format.{IsKey, record_bytes};
-ghost use Rattle.series_store.specs.Lists.{Hold, MayAdd};
+ghost use Rattle.point_model.specs.Acceptance.{IsWritable};
+ghost use Rattle.tsdb_types.specs.declared.point.Point.{Point};
+ghost use Rattle.series_store.specs.Format.{HasRoom, IsKey, record_bytes};
+ghost use Rattle.series_store.specs.Lists.{Hold, IsSeriesOf, MayAdd};
 ghost use Rattle.series_store.specs.Reading.{IsSeriesFile, IsWrong};
 
 /// Records are a file of the series that they hold, and with the record behind them that adds series they hold these too.
@@ -19,4 +22,11 @@ pub fn one_file()
     ensures one { (bytes : List ℕ) (some other : List (List ℕ)) → IsSeriesFile some bytes → IsSeriesFile other bytes → some ≡ other }
     ensures never_wrong { (bytes : List ℕ) (number : ℕ) (series : List (List ℕ)) (damage : Damage) → IsSeriesFile series bytes → IsWrong number damage bytes → ⊥ }
     ensures one_wrong { (bytes : List ℕ) (number : ℕ) (some other : Damage) → IsWrong number some bytes → IsWrong number other bytes → some ≡ other }
+{}
+
+/// Series of a batch that may be handed to a store have room in a record: each for itself, and those that differ together.
+pub fn batch_has_room()
+    ensures room { (points : List Point) (series : List (List ℕ)) → IsWritable points → AllByRecursion (IsSeriesOf points) series → AllByRecursion HasRoom series }
+    ensures short { (points : List Point) (series : List (List ℕ)) → IsWritable points → AllByRecursion (IsSeriesOf points) series → IsDistinct (pointwise nat_eq) series
+        → length (record_bytes series) ≤ 2 ^ 30 }
 {}

@@ -10,6 +10,6 @@ mod read;
 mod series;
 mod take;
 
-pub use laws::{one_file, records_hold};
+pub use laws::{batch_has_room, one_file, records_hold};
 pub use new_series::NewSeries;
 pub use series::Series;

@@ -1,4 +1,4 @@
-use Rattle.std.proofs.Common.{ℕ, List, ◌++◌, ◌∷◌, [], ap, ◌∙◌, if◌then◌else◌, Bool, IsOk, OnOk, Result, Ok, Err}
+use Rattle.std.proofs.Common.{◌++◌, ◌∷◌, [], ap, ◌∙◌, if◌then◌else◌, Bool, IsOk, OnOk, Result, Ok, Err}
 use Rattle.series_store.proofs.ListLemmas.{none_there}
 use Rattle.series_store.proofs.held.hold.Goals as goal
 
