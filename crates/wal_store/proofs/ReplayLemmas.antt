@@ -5,8 +5,9 @@ use Rattle.std.proofs.lemmas.Bool.Decides.{nat_tests}
 use Rattle.std.proofs.lemmas.List.{append-nil, length-append, map-append}
 use Rattle.std.proofs.lemmas.List.Elements.{filter-append}
 use Rattle.gate_log.specs.Records.{spelled}
-use Rattle.wal_store.specs.Segments.{SpellsRecord}
-use Rattle.wal_store.specs.Replay.{AreCounted, AreRecords, Logged, newest_of, past}
+use Rattle.point_model.specs.declared.entry.Entry.{Entry}
+use Rattle.wal_store.specs.Segments.{SpellsRecord, last_number}
+use Rattle.wal_store.specs.Replay.{AreCounted, AreRecords, Holds, Logged, newest_of, past}
 
 -- ---- an entry more
 
@@ -35,6 +36,37 @@ pub counted_more : (floor : ℕ) (kept : List Logged) (l : Logged) → map (λ (
 counted_more floor kept l is next =
     map-append (λ (x : Logged). x.number) kept (l ∷ []) ∙ (λ i. is i ++ next i ∷ []) ∙ sym (range_more (floor + 1) (length kept))
     ∙ ap (λ (n : ℕ). range_with_len (floor + 1) n) (one_longer kept l)
+
+-- ---- what the entries hold
+
+pub holds_none : (floor : ℕ) → floor ≤ last_number → Holds floor [] []
+holds_none floor most = record { counted = refl; past_floor = refl; most = omega (arith, most) }
+
+pub holds_below : (floor : ℕ) (before : List Logged) (l : Logged) (entries : List Entry) → l.number ≤ floor → Holds floor before entries → Holds floor (before ++ l ∷ []) entries
+holds_below floor before l entries low h = record {
+  counted = subst (λ (p : List Logged). map (λ (x : Logged). x.number) p ≡ range_with_len (floor + 1) (length p)) (sym same) h.counted;
+  past_floor = h.past_floor ∙ ap (λ (p : List Logged). map (λ (x : Logged). x.entry) p) (sym same);
+  most = h.most;
+}
+  where
+    same : past floor (before ++ l ∷ []) ≡ past floor before
+    same = past_more floor before l [] (is_below floor l low) ∙ append-nil (past floor before)
+
+-- as many entries as there are past the floor
+pub many_past : (floor : ℕ) (before : List Logged) (entries : List Entry) → Holds floor before entries → length entries ≡ length (past floor before)
+many_past floor before entries h = ap length h.past_floor ∙ length_map (λ (x : Logged). x.entry) (past floor before)
+
+pub holds_next : (floor : ℕ) (before : List Logged) (l : Logged) (entries : List Entry) → floor < l.number → l.number ≤ last_number → l.number ≡ floor + 1 + length entries → Holds floor before entries
+    → Holds floor (before ++ l ∷ []) (entries ++ l.entry ∷ [])
+holds_next floor before l entries high most next h = record {
+  counted = subst (λ (p : List Logged). map (λ (x : Logged). x.number) p ≡ range_with_len (floor + 1) (length p)) (sym same)
+      (counted_more floor (past floor before) l h.counted (next ∙ ap (λ (n : ℕ). floor + 1 + n) (many_past floor before entries h)));
+  past_floor = ap (λ (es : List Entry). es ++ l.entry ∷ []) h.past_floor ∙ sym (map-append (λ (x : Logged). x.entry) (past floor before) (l ∷ [])) ∙ ap (λ (p : List Logged). map (λ (x : Logged). x.entry) p) (sym same);
+  most = omega (arith, most, next, length-append entries (l.entry ∷ []));
+}
+  where
+    same : past floor (before ++ l ∷ []) ≡ past floor before ++ l ∷ []
+    same = past_more floor before l (l ∷ []) (is_past floor l high)
 
 -- entries before others are counted where these are
 front_is : (first : ℕ) (some others : List Logged) → map (λ (l : Logged). l.number) (some ++ others) ≡ range_with_len first (length (some ++ others)) → map (λ (l : Logged). l.number) some ≡ range_with_len first (length some)
