@@ -1,34 +1,15 @@
--- A file is a segment of one list of entries at most, and where they are counted none of its records is strange.
-use Rattle.std.proofs.Common.{◌≡◌, ℕ, ◌+◌, ◌<◌, nat_lt, List, [], ◌∷◌, ◌++◌, length, map, get_or, drop, refl, sym, ap, ◌∙◌, subst, arith, ⊎_elim, append_assoc}
-use Rattle.std.specs.List.{range_with_len}
-use Rattle.std.proofs.lemmas.List.Elements.{filter-append}
+-- A file is a segment of one list of entries at most, and where they are counted nothing is wrong with it.
+use Rattle.std.proofs.Common.{◌≡◌, ◌⊎◌, inl, inr, ⊎_elim, ℕ, ◌<◌, List, [], ◌∷◌, ◌++◌, refl, sym, ap, ◌∙◌, subst}
 use Rattle.shard_disk.specs.declared.damage.Damage.{Damage}
 use Rattle.shard_disk.specs.declared.damage.Why.{Why}
 use Rattle.shard_disk.specs.declared.damage.Why.TheVariants as why
-use Rattle.gate_log.specs.Damage.{IsEnd}
-use Rattle.gate_log.specs.Records.{AllFit, IsShut, IsGated, Spells, spelled}
-use Rattle.gate_log.proofs.Unique.{one_list}
+use Rattle.gate_log.specs.Following.{IsExact}
+use Rattle.gate_log.proofs.FollowingLemmas as following
+use Rattle.gate_log.proofs.Unique.{one_log}
 use Rattle.wal_store.specs.Segments.{SpellsRecord}
-use Rattle.wal_store.specs.Replay.{Logged, AreCounted, AreRecords, HasStrange, IsSegment, IsStrange, past}
+use Rattle.wal_store.specs.Replay.{AreCounted, AreRecords, IsSegment, IsStrange, IsWrongSegment, Logged, Makes, segment_grammar}
 use Rattle.wal_store.proofs.RecordLemmas.{same_record}
-use Rattle.wal_store.proofs.ReplayLemmas.{is_past}
-
--- with one closed gate more an end is a closed gate
-shut_end : (rest : List ℕ) → IsEnd rest → IsShut (rest ++ 0 ∷ [])
-shut_end rest end = ⊎_elim
-    (λ none. subst (λ (l : List ℕ). IsShut (l ++ 0 ∷ [])) (sym none) (record { gate = 0; behind = []; bytes = refl; shut = λ e. omega (arith, e) }))
-    (λ shut. record { gate = shut.gate; behind = shut.behind ++ 0 ∷ []; bytes = ap (λ (l : List ℕ). l ++ 0 ∷ []) shut.bytes; shut = shut.shut })
-    end
-
-gated : (records : List (List ℕ)) (bytes : List ℕ) → Spells records IsEnd bytes → IsGated records (bytes ++ 0 ∷ [])
-gated records bytes log = record {
-  rest = log.rest ++ 0 ∷ [];
-  spelling = ap (λ (l : List ℕ). l ++ 0 ∷ []) log.spelling ∙ append_assoc (spelled records) log.rest (0 ∷ []);
-  ending = shut_end log.rest log.ending;
-}
-
-one_log : (some others : List (List ℕ)) (bytes : List ℕ) → AllFit some → AllFit others → Spells some IsEnd bytes → Spells others IsEnd bytes → some ≡ others
-one_log some others bytes fa fb a b = one_list some others (bytes ++ 0 ∷ []) fa fb (gated some bytes a) (gated others bytes b)
+use Rattle.wal_store.proofs.ReplayLemmas.{leads_of}
 
 same_logged : (a b : Logged) (body : List ℕ) → SpellsRecord a.number a.entry body → SpellsRecord b.number b.entry body → a ≡ b
 same_logged a b body x y = let both = same_record a.number b.number a.entry b.entry body x y in λ i. record { number = both.0 i; entry = both.1 i }
@@ -47,58 +28,59 @@ one_logged (x ∷ some) (y ∷ others) (r ∷ records) a b =
 
 pub one_segment : (some other : List Logged) (bytes : List ℕ) → IsSegment some bytes → IsSegment other bytes → some ≡ other
 one_segment some other bytes a b =
-    let same : a.0 ≡ b.0 = one_log a.0 b.0 bytes a.2 b.2 a.3 b.3 in
+    let same : a.0 ≡ b.0 = one_log a.0 b.0 bytes (a.2, a.3) (b.2, b.3) in
     one_logged some other b.0 (subst (AreRecords some) same a.1) b.1
 
--- the entry whose record has this body, behind those of the records before
-record Behind (logged before : List Logged) (body : List ℕ) : Type 0 where
-  pub here : Logged
-  pub others : List Logged
-  pub parts : logged ≡ before ++ here ∷ others
-  pub spells : SpellsRecord here.number here.entry body
+-- ---- a body makes one state, or is strange for one reason
 
-behind : (logged before : List Logged) (bodies : List (List ℕ)) (body : List ℕ) (others : List (List ℕ)) → AreRecords logged (bodies ++ body ∷ others) → AreRecords before bodies → Behind logged before body
-behind [] before [] body others are old = absurd are
-behind [] before (r ∷ bodies) body others are old = absurd are
-behind (x ∷ logged) [] [] body others are old = record { here = x; others = logged; parts = refl; spells = are.0 }
-behind (x ∷ logged) (y ∷ before) [] body others are old = absurd old
-behind (x ∷ logged) [] (r ∷ bodies) body others are old = absurd old
-behind (x ∷ logged) (y ∷ before) (r ∷ bodies) body others are old =
-    let rest = behind logged before bodies body others are.1 old.1 in
-    let head = same_logged x y r are.0 old.0 in
-    record { here = rest.here; others = rest.others; parts = λ i. head i ∷ rest.parts i; spells = rest.spells }
+one_made : (floor : ℕ) (old : List Logged) (body : List ℕ) (some other : List Logged) → Makes floor old body some → Makes floor old body other → some ≡ other
+one_made floor old body some other a b = a.behind ∙ ap (λ (l : Logged). old ++ l ∷ []) (same_logged a.logged b.logged body a.spells b.spells) ∙ sym b.behind
 
-number_at : (a : ℕ) (kept : List Logged) (l : Logged) (others : List Logged) → map (λ (x : Logged). x.number) (kept ++ l ∷ others) ≡ range_with_len a (length (kept ++ l ∷ others)) → l.number ≡ a + length kept
-number_at a [] l others is = let first : l.number ≡ a = ap (λ (ns : List ℕ). get_or ns 0 0) is in omega (arith, first)
-number_at a (k ∷ kept) l others is = let rest = number_at (a + 1) kept l others (ap (λ (ns : List ℕ). drop 1 ns) is) in omega (arith, rest)
+-- a body is strange as no record's or by its number
+one_of : (reason : Why) (floor : ℕ) (old : List Logged) (body : List ℕ) → IsStrange reason floor old body → (reason ≡ why.Body) ⊎ (reason ≡ why.Number)
+one_of why.Body floor old body strange = inl refl
+one_of why.Number floor old body strange = inr refl
+one_of why.NoManifest floor old body strange = absurd strange
+one_of why.Missing floor old body strange = absurd strange
+one_of why.Head floor old body strange = absurd strange
+one_of why.Foot floor old body strange = absurd strange
+one_of why.Keys floor old body strange = absurd strange
+one_of why.Block floor old body strange = absurd strange
+one_of (why.Sum stored computed) floor old body strange = absurd strange
 
-past_behind : (floor : ℕ) (before : List Logged) (l : Logged) (others : List Logged) → floor < l.number → past floor (before ++ l ∷ others) ≡ past floor before ++ l ∷ past floor others
-past_behind floor before l others high =
-    filter-append (λ (x : Logged). nat_lt floor x.number) before (l ∷ others)
-    ∙ ap (λ (p : List Logged). past floor before ++ p) (filter-append (λ (x : Logged). nat_lt floor x.number) (l ∷ []) others ∙ ap (λ (p : List Logged). p ++ past floor others) (is_past floor l high))
+never_both : (floor : ℕ) (old : List Logged) (body : List ℕ) → IsStrange why.Body floor old body → IsStrange why.Number floor old body → ⊥
+never_both floor old body none wrong = none wrong.0 wrong.1 wrong.2
 
--- an entry past the floor is the next one
-next_is : (floor : ℕ) (before : List Logged) (l : Logged) (others : List Logged) → floor < l.number → AreCounted floor (before ++ l ∷ others) → l.number ≡ floor + 1 + length (past floor before)
-next_is floor before l others high counted =
-    number_at (floor + 1) (past floor before) l (past floor others)
-    (subst (λ (p : List Logged). map (λ (x : Logged). x.number) p ≡ range_with_len (floor + 1) (length p)) (past_behind floor before l others high) counted)
+never_made : (reason : Why) (floor : ℕ) (old : List Logged) (body : List ℕ) (new : List Logged) → Makes floor old body new → IsStrange reason floor old body → ⊥
+never_made reason floor old body new made strange =
+    ⊎_elim
+    (λ is. let none = subst (λ (w : Why). IsStrange w floor old body) is strange in none made.logged.number made.logged.entry made.spells)
+    (λ is.
+    let wrong = subst (λ (w : Why). IsStrange w floor old body) is strange in
+    let same = (same_record made.logged.number wrong.0 made.logged.entry wrong.1 body made.spells wrong.2).0 in
+    wrong.4 (sym same ∙ made.next (subst (λ (n : ℕ). floor < n) (sym same) wrong.3)))
+    (one_of reason floor old body strange)
 
-not_strange : (why : Why) (floor : ℕ) (before : List Logged) (l : Logged) (others : List Logged) (body : List ℕ) → SpellsRecord l.number l.entry body → AreCounted floor (before ++ l ∷ others) → IsStrange why floor before body → ⊥
-not_strange why.Body floor before l others body spells counted strange = strange l.number l.entry spells
-not_strange why.Number floor before l others body spells counted strange =
-    let same = (same_record l.number strange.0 l.entry strange.1 body spells strange.2).0 in
-    strange.4 (sym same ∙ next_is floor before l others (subst (λ (n : ℕ). floor < n) (sym same) strange.3) counted)
-not_strange why.NoManifest floor before l others body spells counted strange = strange
-not_strange why.Missing floor before l others body spells counted strange = strange
-not_strange why.Head floor before l others body spells counted strange = strange
-not_strange why.Foot floor before l others body spells counted strange = strange
-not_strange why.Keys floor before l others body spells counted strange = strange
-not_strange why.Block floor before l others body spells counted strange = strange
-not_strange (why.Sum stored computed) floor before l others body spells counted strange = strange
+one_reason : (some other : Why) (floor : ℕ) (old : List Logged) (body : List ℕ) → IsStrange some floor old body → IsStrange other floor old body → some ≡ other
+one_reason some other floor old body a b =
+    let so = λ (w v : Why) (is : w ≡ v) (strange : IsStrange w floor old body). subst (λ (x : Why). IsStrange x floor old body) is strange in
+    ⊎_elim
+    (λ body_a. ⊎_elim (λ body_b. body_a ∙ sym body_b) (λ number_b. absurd (never_both floor old body (so some why.Body body_a a) (so other why.Number number_b b))) (one_of other floor old body b))
+    (λ number_a. ⊎_elim (λ body_b. absurd (never_both floor old body (so other why.Body body_b b) (so some why.Number number_a a))) (λ number_b. number_a ∙ sym number_b) (one_of other floor old body b))
+    (one_of some floor old body a)
 
-pub no_stranger : (damage : Damage) (file floor : ℕ) (before logged : List Logged) (bytes : List ℕ) → IsSegment logged bytes → AreCounted floor (before ++ logged) → HasStrange damage file floor before bytes → ⊥
-no_stranger damage file floor before logged bytes is counted (records, fit, log, s) =
-    let same : is.0 ≡ s.bodies ++ s.body ∷ s.others = one_log is.0 records bytes is.2 fit is.3 log ∙ s.parts in
-    let b = behind logged s.logged s.bodies s.body s.others (subst (AreRecords logged) same is.1) s.are in
-    not_strange damage.why floor (before ++ s.logged) b.here b.others s.body b.spells
-    (subst (AreCounted floor) (ap (λ (l : List Logged). before ++ l) b.parts ∙ sym (append_assoc before s.logged (b.here ∷ b.others))) counted) s.strange
+segment_exact : (floor : ℕ) → IsExact (segment_grammar floor)
+segment_exact floor = record {
+  one = one_made floor;
+  never = λ reason old body new made strange. never_made reason floor old body new made strange;
+  reason = λ some other old body a b. one_reason some other floor old body a b;
+}
+
+-- ---- what a segment is wrong by
+
+pub never_wrong : (damage : Damage) (file floor : ℕ) (before logged : List Logged) (bytes : List ℕ) → IsSegment logged bytes → AreCounted floor (before ++ logged) → IsWrongSegment damage file floor before bytes → ⊥
+never_wrong damage file floor before logged bytes is counted wrong =
+    following.never_wrong (segment_grammar floor) (segment_exact floor) before (before ++ logged) bytes damage file (record { records = is.0; log = (is.2, is.3); lead = leads_of floor before logged is.0 is.1 counted }) wrong
+
+pub one_wrong : (some other : Damage) (file floor : ℕ) (before : List Logged) (bytes : List ℕ) → IsWrongSegment some file floor before bytes → IsWrongSegment other file floor before bytes → some ≡ other
+one_wrong some other file floor before bytes a b = following.one_wrong (segment_grammar floor) (segment_exact floor) before bytes some other file a b

@@ -10,7 +10,7 @@ use Rattle.wal_store.specs.declared.replay.Place.{Place}
 use Rattle.wal_store.specs.Replay.{AreCounted, IsStrange, Logged, StandsStrange, past}
 use Rattle.wal_store.specs.Reading.{Ends, Gives, HasRead, Reads, Replaying, TakesAll, entries_past, with_record}
 use Rattle.wal_store.specs.Segments.{Segments, SpellsRecord}
-use Rattle.wal_store.proofs.ReplayLemmas.{are_more, counted_more, is_below, is_past, newest_more, past_more, spelled_more}
+use Rattle.wal_store.proofs.ReplayLemmas.{are_more, counted_more, is_below, is_past, leads_of, newest_more, past_more, spelled_more}
 
 -- ---- no record, and one record after another
 
@@ -169,17 +169,17 @@ pub strange_at : (first now : Replaying) (rest : List (List ℕ)) (body : List �
 strange_at first now rest body damage why passed next is strange before here records has =
     let on = passed.reads.on before here records has in
     let floor = passed.reads.floor in
+    let all = before ++ (here ++ on.more) in
     record {
-      logged = here ++ on.more;
-      bodies = records ++ passed.read;
+      before = records ++ passed.read;
+      state = all;
       body = body;
       others = rest;
       parts = ap (λ (l : List (List ℕ)). records ++ l) (passed.reads.parts ∙ ap (λ (l : List (List ℕ)). passed.read ++ l) next) ∙ sym (append_assoc records passed.read (body ∷ rest));
-      are = on.has.are;
-      counted = subst (λ (f : ℕ). AreCounted f (before ++ (here ++ on.more))) floor on.has.counted;
-      strange = subst (λ (w : Why). IsStrange w first.floor (before ++ (here ++ on.more)) body) (sym (ap (λ (d : Damage). d.why) is))
-          (subst (λ (f : ℕ). IsStrange why f (before ++ (here ++ on.more)) body) floor (strange before (here ++ on.more) (records ++ passed.read) (has_left now rest before (here ++ on.more) (records ++ passed.read) on.has)));
-      named = ap (λ (d : Damage). d.file) is ∙ ap (λ (w : Segments). w.log.file) passed.reads.same;
+      lead = leads_of first.floor before (here ++ on.more) (records ++ passed.read) on.has.are (subst (λ (f : ℕ). AreCounted f all) floor on.has.counted);
+      strange = subst (λ (w : Why). IsStrange w first.floor all body) (sym (ap (λ (d : Damage). d.why) is))
+          (subst (λ (f : ℕ). IsStrange why f all body) floor (strange before (here ++ on.more) (records ++ passed.read) (has_left now rest before (here ++ on.more) (records ++ passed.read) on.has)));
+      file = ap (λ (d : Damage). d.file) is ∙ ap (λ (w : Segments). w.log.file) passed.reads.same;
       gate = ap (λ (d : Damage). d.offset) is ∙ on.has.gate;
     }
 

@@ -2,12 +2,13 @@
 use Rattle.std.proofs.Common.{◌≡◌, ℕ, zero, suc, ◌+◌, ◌<◌, ◌≤◌, Bool, true, false, cond, nat_lt, max, List, [], ◌∷◌, ◌++◌, length, map, get_or, drop, refl, sym, ap, subst, ◌∙◌, arith}
 use Rattle.std.specs.List.{range_with_len}
 use Rattle.std.proofs.lemmas.Bool.Decides.{nat_tests}
-use Rattle.std.proofs.lemmas.List.{append-nil, length-append, map-append}
+use Rattle.std.proofs.lemmas.List.{append_assoc, append-nil, length-append, map-append}
 use Rattle.std.proofs.lemmas.List.Elements.{filter-append}
+use Rattle.gate_log.specs.Following.{Leads}
 use Rattle.gate_log.specs.Records.{spelled}
 use Rattle.point_model.specs.declared.entry.Entry.{Entry}
 use Rattle.wal_store.specs.Segments.{SpellsRecord, last_number}
-use Rattle.wal_store.specs.Replay.{AreCounted, AreRecords, Holds, Logged, newest_of, past}
+use Rattle.wal_store.specs.Replay.{AreCounted, AreRecords, Holds, Logged, newest_of, past, segment_grammar}
 
 -- ---- an entry more
 
@@ -102,3 +103,32 @@ newest_more (x ∷ logged) l = ap (λ (n : ℕ). max x.number n) (newest_more lo
 pub spelled_more : (records : List (List ℕ)) (body : List ℕ) → length (spelled (records ++ body ∷ [])) ≡ length (spelled records) + (9 + length body)
 spelled_more [] body = omega (arith, ap length (append-nil body))
 spelled_more (x ∷ xs) body = omega (arith, spelled_more xs body, length-append x (spelled (xs ++ body ∷ [])), length-append x (spelled xs))
+
+-- ---- records that follow one another
+
+number_at : (a : ℕ) (kept : List Logged) (l : Logged) (others : List Logged) → map (λ (x : Logged). x.number) (kept ++ l ∷ others) ≡ range_with_len a (length (kept ++ l ∷ others)) → l.number ≡ a + length kept
+number_at a [] l others is = let first : l.number ≡ a = ap (λ (ns : List ℕ). get_or ns 0 0) is in omega (arith, first)
+number_at a (k ∷ kept) l others is = let rest = number_at (a + 1) kept l others (ap (λ (ns : List ℕ). drop 1 ns) is) in omega (arith, rest)
+
+past_behind : (floor : ℕ) (before : List Logged) (l : Logged) (others : List Logged) → floor < l.number → past floor (before ++ l ∷ others) ≡ past floor before ++ l ∷ past floor others
+past_behind floor before l others high =
+    filter-append (λ (x : Logged). nat_lt floor x.number) before (l ∷ others)
+    ∙ ap (λ (p : List Logged). past floor before ++ p) (filter-append (λ (x : Logged). nat_lt floor x.number) (l ∷ []) others ∙ ap (λ (p : List Logged). p ++ past floor others) (is_past floor l high))
+
+-- an entry past the floor is the next one
+pub next_is : (floor : ℕ) (before : List Logged) (l : Logged) (others : List Logged) → floor < l.number → AreCounted floor (before ++ l ∷ others) → l.number ≡ floor + 1 + length (past floor before)
+next_is floor before l others high counted =
+    number_at (floor + 1) (past floor before) l (past floor others)
+    (subst (λ (p : List Logged). map (λ (x : Logged). x.number) p ≡ range_with_len (floor + 1) (length p)) (past_behind floor before l others high) counted)
+
+-- the records of entries that are counted lead from those before to all
+pub leads_of : (floor : ℕ) (before here : List Logged) (records : List (List ℕ)) → AreRecords here records → AreCounted floor (before ++ here) → Leads (segment_grammar floor) before records (before ++ here)
+leads_of floor before [] [] are counted = append-nil before
+leads_of floor before [] (body ∷ records) are counted = absurd are
+leads_of floor before (l ∷ here) [] are counted = absurd are
+leads_of floor before (l ∷ here) (body ∷ records) are counted = (
+  before ++ l ∷ [],
+  record { logged = l; spells = are.0; next = λ high. next_is floor before l here high counted; behind = refl },
+  subst (λ (all : List Logged). Leads (segment_grammar floor) (before ++ l ∷ []) records all) (append_assoc before (l ∷ []) here)
+      (leads_of floor (before ++ l ∷ []) here records are.1 (subst (AreCounted floor) (sym (append_assoc before (l ∷ []) here)) counted)),
+)

@@ -14,6 +14,7 @@ use Rattle.gate_log.specs.Records.{AllFit, IsGated, Spells}
 use Rattle.gate_log.specs.declared.fault.LogFault.TheVariants.{Damaged}
 use Rattle.gate_log.specs.declared.log.Gate.{Gate}
 use Rattle.gate_log.specs.declared.log.Log.{Log}
+use Rattle.gate_log.proofs.FollowingLemmas.{strange_read}
 use Rattle.gate_log.proofs.Reading.{reads_since}
 use Rattle.gate_log.proofs.Unique.{found_log, gated_log}
 use Rattle.point_model.specs.declared.entry.Entry.{Entry}
@@ -23,7 +24,7 @@ use Rattle.shard_disk.specs.declared.damage.Damage.{Damage}
 use Rattle.shard_disk.proofs.Everywhere.{file_weaker}
 use Rattle.shard_disk.proofs.Runs.{joins}
 use Rattle.wal_store.specs.Segments.{Segments, SpellsRecord, last_number, one_segment, with_segment}
-use Rattle.wal_store.specs.Replay.{AreCounted, AreRecords, HasSegments, IsSegment, IsWrong, IsWrongSegment, Logged, Replays, StandsStrange, joined, last_past, newest_of, past}
+use Rattle.wal_store.specs.Replay.{AreCounted, AreRecords, HasSegments, IsSegment, IsWrong, IsWrongSegment, Logged, Replays, StandsStrange, joined, last_past, newest_of, past, segment_grammar}
 use Rattle.wal_store.specs.Reading.{AreRead, HasRead, Reads, Replaying, TakesAll, entries_past}
 use Rattle.wal_store.proofs.ListLemmas.{all_push}
 use Rattle.wal_store.proofs.ReplayLemmas.{counted_front, length_map}
@@ -72,7 +73,7 @@ found_segment file gate logged records files are fit found =
 strange_segment : (damage : Damage) (file floor : ℕ) (before : List Logged) (gate : Gate) (records : List (List ℕ)) (files : Directory) → AllFit records → HasFile files file (Spells records (FoundBy gate)) → StandsStrange damage file floor before records
     → HasFile files file (IsWrongSegment damage file floor before)
 strange_segment damage file floor before gate records files fit found strange =
-    file_weaker file (Spells records (FoundBy gate)) (IsWrongSegment damage file floor before) (λ bytes here. inr (records, fit, (found_log gate records bytes fit here).1, strange)) files found
+    strange_read (segment_grammar floor) before damage file gate records files fit strange found
 
 damaged_segment : (damage : Damage) (file floor : ℕ) (before : List Logged) (files : Directory) → HasFile files file (TellsOf (Damaged damage) file) → HasFile files file (IsWrongSegment damage file floor before)
 damaged_segment damage file floor before files bad =

@@ -1,5 +1,5 @@
 -- What are the segments of a log read as, and what is wrong with others?
-use Rattle.std.specs.Prelude.{◌≡◌, ◌≢◌, ◌⊎◌, ℕ, ◌+◌, ◌<◌, ◌≤◌, nat_lt, max, List, [], ◌∷◌, ◌++◌, length, filter, map, false}
+use Rattle.std.specs.Prelude.{◌≡◌, ◌≢◌, ℕ, ◌+◌, ◌<◌, ◌≤◌, nat_lt, max, List, [], ◌∷◌, ◌++◌, length, filter, map, false}
 use Rattle.std.specs.List.{flat_map, range_with_len, AllByRecursion}
 use Rattle.shard_disk.specs.Crash.{Crashes, IsDurable}
 use Rattle.shard_disk.specs.Directory.{Directory, HasFile}
@@ -7,8 +7,10 @@ use Rattle.shard_disk.specs.declared.damage.Damage.{Damage}
 use Rattle.shard_disk.specs.declared.damage.Why.{Why}
 use Rattle.shard_disk.specs.declared.damage.Why.TheVariants.{Body, Number}
 use Rattle.gate_log.specs.Calls.Read.{Reads}
-use Rattle.gate_log.specs.Damage.{IsDamaged, IsEnd}
-use Rattle.gate_log.specs.Records.{AllFit, Spells, spelled}
+use Rattle.gate_log.specs.Damage.{IsEnd}
+use Rattle.gate_log.specs.Following.{Grammar}
+use Rattle.gate_log.specs.Following as following
+use Rattle.gate_log.specs.Records.{AllFit, Spells}
 use Rattle.point_model.specs.declared.entry.Entry.{Entry}
 use Rattle.wal_store.specs.Segments.{Segments, SpellsRecord, last_number}
 
@@ -86,26 +88,24 @@ IsStrange Number floor before body =
     (number : ℕ) × (entry : Entry) × SpellsRecord number entry body × (floor < number) × (number ≢ floor + 1 + length (past floor before))
 IsStrange other floor before body = ⊥
 
--- Among the records, behind those of entries that are counted with the ones before, stands such a one: it is named at its gate.
-pub record StandsStrange (damage : Damage) (file floor : ℕ) (before : List Logged) (records : List (List ℕ)) : Type 0 where
-  pub logged : List Logged
-  pub bodies : List (List ℕ)
-  pub body : List ℕ
-  pub others : List (List ℕ)
-  pub parts : records ≡ bodies ++ body ∷ others
-  pub are : AreRecords logged bodies
-  pub counted : AreCounted floor (before ++ logged)
-  pub strange : IsStrange damage.why floor (before ++ logged) body
-  pub named : damage.file ≡ file
-  pub gate : damage.offset ≡ length (spelled bodies)
+-- Behind these entries a body is the record of one, which counts as the next where it is past the floor.
+pub record Makes (floor : ℕ) (before : List Logged) (body : List ℕ) (after : List Logged) : Type 0 where
+  pub logged : Logged
+  pub spells : SpellsRecord logged.number logged.entry body
+  pub next : floor < logged.number → logged.number ≡ floor + 1 + length (past floor before)
+  pub behind : after ≡ before ++ logged ∷ []
 
--- the bytes are a log, and a record of it is so
-abbrev pub HasStrange : Damage → ℕ → ℕ → List Logged → List ℕ → Type 0
-HasStrange damage file floor before bytes = (records : List (List ℕ)) × AllFit records × Spells records IsEnd bytes × StandsStrange damage file floor before records
+-- how the bodies of segments are read, one behind the other
+abbrev pub segment_grammar : ℕ → Grammar (List Logged)
+segment_grammar floor = record { makes = Makes floor; strange = λ why before body. IsStrange why floor before body }
+
+-- among the records of a segment behind these entries stands such a one, behind others that aren't so: it is named at its gate
+abbrev pub StandsStrange : Damage → ℕ → ℕ → List Logged → List (List ℕ) → Type 0
+StandsStrange damage file floor before records = following.StandsBehind (segment_grammar floor) before damage file records
 
 -- what a segment behind these entries is wrong by: its log, or a record
 abbrev pub IsWrongSegment : Damage → ℕ → ℕ → List Logged → List ℕ → Type 0
-IsWrongSegment damage file floor before bytes = IsDamaged damage file bytes ⊎ HasStrange damage file floor before bytes
+IsWrongSegment damage file floor before bytes = following.IsWrong (segment_grammar floor) before damage file bytes
 
 -- The first segments are sound and their entries counted, and the next one is wrong.
 pub record IsWrong (damage : Damage) (floor : ℕ) (files : Directory) (segments : List ℕ) : Type 0 where

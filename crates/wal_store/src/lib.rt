@@ -18,6 +18,6 @@ mod wal;
 pub use entry::{one_entry, read_entry, write_entry};
 pub use fault::EntryFault;
 pub use framed::WalRecord;
-pub use laws::{one_segment_read, records_fit};
+pub use laws::{one_segment_read, records_fit, records_hold};
 pub use replay::{Place, Replay};
 pub use wal::Wal;
