@@ -27,7 +27,7 @@ use Rattle.merge_cursor.proofs.TurnLemmas.{overlay_turned}
 use Rattle.point_model.proofs.PointLemmas.{sorted_test}
 use Rattle.std.proofs.lemmas.Map.Keys.{sorted_head, sorted_tail}
 use Rattle.point_view.specs.Laws.{ViewsSee}
-use Rattle.point_view.specs.Seen.{AreRowsOf, AreSourcesOf, is_asked}
+use Rattle.point_view.specs.Seen.{AreRowsUnder, AreSourcesOf, is_asked}
 use Rattle.point_view.proofs.BetweenLemmas.{find_between, sorted_between}
 
 -- rows that are turned round
@@ -92,12 +92,12 @@ newest_shown need key (content ∷ older) (rows ∷ sources) are time =
     (sym (ap (λ (cs : List Content). contents.overlay cs (cell_at key time)) (reverse-append (content ∷ []) older) ∙ overlay-append (reverse older) (content ∷ []) (cell_at key time)))
 
 merged : (need : Need) (key : Key) (newest : List Content) (sources : List (List Row)) → AreSourcesOf need key newest sources
-    → AreRowsOf need key (contents.overlay (reverse newest)) (overlay need.descending sources)
+    → AreRowsUnder need key (contents.overlay (reverse newest)) (overlay need.descending sources)
 merged need key newest sources are =
     let is = is_overlay need.descending sources in
     record { ordered = is.ordered; values = λ time. is.values time ∙ newest_shown need key newest sources are time }
 
-one : (need : Need) (key : Key) (content : Content) (rows others : List Row) → AreRowsOf need key content rows → AreRowsOf need key content others → rows ≡ others
+one : (need : Need) (key : Key) (content : Content) (rows others : List Row) → AreRowsUnder need key content rows → AreRowsUnder need key content others → rows ≡ others
 one need key content rows others first second =
     same_rows need.descending rows others first.ordered second.ordered (λ time. first.values time ∙ sym (second.values time))
 
@@ -118,7 +118,7 @@ hidden_or_not true false o = refl
 -- the rows of a layer that are asked for and not hidden
 layer : (need : Need) (key : Key) (content : Content) (hidden : ℤ → Bool) (rows : List Row) → AreInOrder false rows
     → ((time : ℤ) → content (cell_at key time) ≡ cond (hidden time) None (value_of rows time))
-    → AreRowsOf need key content (in_order need.descending (filter (λ (row : Row). is_asked need row.0 && not (hidden row.0)) rows))
+    → AreRowsUnder need key content (in_order need.descending (filter (λ (row : Row). is_asked need row.0 && not (hidden row.0)) rows))
 layer need key content hidden rows ordered has =
     let test : ℤ → Bool = λ time. is_asked need time && not (hidden time) in
     let kept : List Row = filter (λ (row : Row). test row.0) rows in
@@ -134,7 +134,7 @@ layer need key content hidden rows ordered has =
           ∙ ap (λ (o : Option Value). cond (is_asked need time) o None) (sym (has time));
     }
 
-points_rows : (need : Need) (key : Key) (points : Points) → IsStrictlySortedBy cell_cmp (keys_of points) → AreRowsOf need key (value_at points) (rows_needed need points key)
+points_rows : (need : Need) (key : Key) (points : Points) → IsStrictlySortedBy cell_cmp (keys_of points) → AreRowsUnder need key (value_at points) (rows_needed need points key)
 points_rows need key points sorted =
     let rows = rows_between need.from need.to points key in
     let ascend : AreInOrder false rows = sorted_fact (time_cmp false) rows (sorted_between need.from need.to key points (sorted_test cell_cmp points sorted)) in

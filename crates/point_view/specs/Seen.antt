@@ -11,7 +11,7 @@ abbrev pub is_asked : Need → ℤ → Bool
 is_asked need time = int_le need.from time && int_le time need.to
 
 -- The rows that a need asks of a key in a content: in its order, each time once, with what is live there between its bounds.
-pub record AreRowsOf (need : Need) (key : Key) (content : Content) (rows : List Row) : Type 0 where
+pub record AreRowsUnder (need : Need) (key : Key) (content : Content) (rows : List Row) : Type 0 where
   pub ordered : AreInOrder need.descending rows
   pub values : (time : ℤ) → value_of rows time ≡ (if is_asked need time then content (cell_at key time) else None)
 
@@ -20,4 +20,4 @@ abbrev pub AreSourcesOf : Need → Key → List Content → List (List Row) → 
 AreSourcesOf need key [] [] = ⊤
 AreSourcesOf need key [] (rows ∷ sources) = ⊥
 AreSourcesOf need key (content ∷ older) [] = ⊥
-AreSourcesOf need key (content ∷ older) (rows ∷ sources) = AreRowsOf need key content rows × AreSourcesOf need key older sources
+AreSourcesOf need key (content ∷ older) (rows ∷ sources) = AreRowsUnder need key content rows × AreSourcesOf need key older sources

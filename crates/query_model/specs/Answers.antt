@@ -3,7 +3,7 @@ use Rattle.std.specs.Prelude.{ℕ, zero, suc, Bool, true, false, List, map, filt
 use Rattle.point_model.specs.Points.{Points}
 use Rattle.query_model.specs.declared.select.Select.{Select}
 use Rattle.query_model.specs.declared.tables.Table.{Table}
-use Rattle.query_model.specs.Refusals.{Refusal, refusal_of}
+use Rattle.query_model.specs.Refusals.{Refusal, select_refusal}
 use Rattle.query_model.specs.Tables.{all_tables, has_row}
 
 -- so many of a list; 0 is no limit
@@ -30,17 +30,17 @@ limited select table =
 
 -- The tables with their rows turned where that is asked for, then cut by the limits of rows; tables without a row then are
 -- left out, and the others cut by the limits of tables.
-abbrev pub tables_of : Select → Points → List Table
-tables_of select points = shown_part select.soffset select.slimit (filter has_row (map (limited select) (all_tables select points)))
+abbrev pub select_tables : Select → Points → List Table
+select_tables select points = shown_part select.soffset select.slimit (filter has_row (map (limited select) (all_tables select points)))
 
 -- tables, or why there are none
-pub data Answer : Type 0 where
-  tables : List Table → Answer
-  refused : Refusal → Answer
+pub data SelectAnswer : Type 0 where
+  tables : List Table → SelectAnswer
+  refused : Refusal → SelectAnswer
 
-abbrev pub answer_of : Select → Points → Option Refusal → Answer
-answer_of select points None = tables (tables_of select points)
+abbrev pub answer_of : Select → Points → Option Refusal → SelectAnswer
+answer_of select points None = tables (select_tables select points)
 answer_of select points (Some refusal) = refused refusal
 
-abbrev pub rows : Points → Select → Answer
-rows points select = answer_of select points (refusal_of select points)
+abbrev pub rows : Points → Select → SelectAnswer
+rows points select = answer_of select points (select_refusal select points)

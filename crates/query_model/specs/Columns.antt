@@ -9,7 +9,7 @@ use Rattle.query_model.specs.declared.items.Items.TheVariants as items
 use Rattle.query_model.specs.declared.items.Trans.{Trans}
 use Rattle.query_model.specs.declared.items.Trans.TheVariants.{Difference, CumulativeSum, Elapsed}
 use Rattle.query_model.specs.declared.select.Select.{Select}
-use Rattle.query_model.specs.Records.{ascending, fields_of, is_among, tag_keys_of}
+use Rattle.query_model.specs.Records.{ascending, fields_of_measurement, is_among, tag_keys_of}
 use Rattle.query_model.specs.Selected.{grouping_keys}
 
 abbrev pub call_name : Agg → List ℕ
@@ -29,7 +29,7 @@ trans_name (Elapsed unit) = codes "elapsed"
 -- all fields of the measurement, and all tag keys by which it isn't grouped, ascending, each once
 abbrev pub star_names : Select → Points → List (List ℕ)
 star_names select points =
-    ascending (fields_of select.measurement points
+    ascending (fields_of_measurement select.measurement points
     ++ filter (λ key. not (is_among (grouping_keys select points) key)) (tag_keys_of select.measurement points))
 
 -- the names whose values a table of plain names shows; aggregates and transformations show none

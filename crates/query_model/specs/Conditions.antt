@@ -25,18 +25,18 @@ is_below Less = true
 is_below Equal = false
 is_below Greater = false
 
-abbrev pub is_same : Ordering → Bool
-is_same Less = false
-is_same Equal = true
-is_same Greater = false
+abbrev pub is_equal : Ordering → Bool
+is_equal Less = false
+is_equal Equal = true
+is_equal Greater = false
 
 -- values that stand so to one another pass the comparison
 abbrev pub passes : Op → Ordering → Bool
-passes Eq order = is_same order
-passes Ne order = not (is_same order)
+passes Eq order = is_equal order
+passes Ne order = not (is_equal order)
 passes Lt order = is_below order
-passes Le order = is_below order || is_same order
-passes Gt order = not (is_below order || is_same order)
+passes Le order = is_below order || is_equal order
+passes Gt order = not (is_below order || is_equal order)
 passes Ge order = not (is_below order)
 
 -- whether two things that have no order are the same passes a comparison for equality alone

@@ -28,19 +28,19 @@ is_value (number kind n) = is_in_kind kind n
 is_value (truth t) = true
 
 -- the value; what isn't in its kind is refused and shown by no one
-abbrev pub value_of : Exact → Value
-value_of (number Integer n) = value.Int n
-value_of (number Unsigned n) = value.Uint (nat_abs n)
-value_of (number Boolean n) = value.Int n
-value_of (truth t) = value.Bool t
+abbrev pub value_of_exact : Exact → Value
+value_of_exact (number Integer n) = value.Int n
+value_of_exact (number Unsigned n) = value.Uint (nat_abs n)
+value_of_exact (number Boolean n) = value.Int n
+value_of_exact (truth t) = value.Bool t
 
 -- the number that a value is; a truth is none and counts as 0 or 1, false below true
-abbrev pub number_of : Value → ℤ
-number_of (value.Int n) = n
-number_of (value.Uint n) = pos n
-number_of (value.Bool true) = pos 1
-number_of (value.Bool false) = pos 0
+abbrev pub value_as_number : Value → ℤ
+value_as_number (value.Int n) = n
+value_as_number (value.Uint n) = pos n
+value_as_number (value.Bool true) = pos 1
+value_as_number (value.Bool false) = pos 0
 
 -- the first value is below the second; both are of one kind
 abbrev pub is_less : Value → Value → Bool
-is_less a b = is_below (int_cmp (number_of a) (number_of b))
+is_less a b = is_below (int_cmp (value_as_number a) (value_as_number b))

@@ -14,10 +14,10 @@ use Rattle.query_model.specs.declared.items.Trans.TheVariants as trans
 use Rattle.query_model.specs.declared.select.Fill.{Fill}
 use Rattle.query_model.specs.declared.select.Fill.TheVariants as fill
 use Rattle.query_model.specs.declared.select.Select.{Select}
-use Rattle.query_model.specs.Aggregates.{values_of}
+use Rattle.query_model.specs.Aggregates.{field_values}
 use Rattle.query_model.specs.Exact.{Exact, is_value}
 use Rattle.query_model.specs.Records.{Record, value_in}
-use Rattle.query_model.specs.Selected.{groups, kept}
+use Rattle.query_model.specs.Selected.{record_groups, kept}
 use Rattle.query_model.specs.Transformations.{transformed}
 use Rattle.query_model.specs.Windows.{Span, cells_of, members_at, span_of, window_start}
 
@@ -71,15 +71,15 @@ abbrev pub overflows : Select → Items → List Record → Bool
 overflows select items.Star records = false
 overflows select (items.Raw raw) records = false
 overflows select (items.Agg aggregates) records = overflows_in select.windows aggregates records
-overflows select (items.Trans item) records = list_any (λ row. not (is_value row.1)) (transformed item.call (values_of item.field records))
+overflows select (items.Trans item) records = list_any (λ row. not (is_value row.1)) (transformed item.call (field_values item.field records))
 
-abbrev pub is_over : Option Span → Bool
-is_over None = false
-is_over (Some span) = not (nat_le span.count 1000000)
+abbrev pub is_span_over : Option Span → Bool
+is_span_over None = false
+is_span_over (Some span) = not (nat_le span.count 1000000)
 
 -- the windows of the records are more than a million
 abbrev pub has_too_many : Select → Option (ℤ × ℤ) → Items → List Record → Bool
-has_too_many select (Some windows) (items.Agg aggregates) records = is_over (span_of select windows aggregates records)
+has_too_many select (Some windows) (items.Agg aggregates) records = is_span_over (span_of select windows aggregates records)
 has_too_many select (Some windows) items.Star records = false
 has_too_many select (Some windows) (items.Raw raw) records = false
 has_too_many select (Some windows) (items.Trans item) records = false
@@ -99,10 +99,10 @@ pub data Refusal : Type 0 where
   too_many_windows : Refusal
 
 -- The first of the three that holds, of all groups and whatever the limits would leave out.
-abbrev pub refusal_of : Select → Points → Option Refusal
-refusal_of select points =
+abbrev pub select_refusal : Select → Points → Option Refusal
+select_refusal select points =
     if asks_numbers_of_truths select.items (kept select points) then Some bad_argument
-    else if list_any (λ group. overflows select select.items group.members) (groups select points) then Some sum_range
-    else if lays_out_all select.fill && list_any (λ group. has_too_many select select.windows select.items group.members) (groups select points)
+    else if list_any (λ group. overflows select select.items group.members) (record_groups select points) then Some sum_range
+    else if lays_out_all select.fill && list_any (λ group. has_too_many select select.windows select.items group.members) (record_groups select points)
     then Some too_many_windows
     else None

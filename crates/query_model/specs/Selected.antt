@@ -30,13 +30,13 @@ abbrev pub highest_time : Select → ℤ
 highest_time select = unwrap_or select.upper (upper_of select.windows select.moment)
 
 -- the record's time lies between the bounds, both included
-abbrev pub is_within : Select → Record → Bool
-is_within select this = int_le (lowest_time select) this.time && int_le this.time (highest_time select)
+abbrev pub is_between_bounds : Select → Record → Bool
+is_between_bounds select this = int_le (lowest_time select) this.time && int_le this.time (highest_time select)
 
 -- the records of the measurement that meet the condition and lie between the bounds, by time and then by series
 abbrev pub kept : Select → Points → List Record
 kept select points =
-    filter (λ this. is_within select this && meets_condition (is_field select.measurement points) select.cond this)
+    filter (λ this. is_between_bounds select this && meets_condition (is_field select.measurement points) select.cond this)
     (records_of select.measurement points)
 
 abbrev pub all_keys : Bool → List (List ℕ) → List (List ℕ)
@@ -52,7 +52,7 @@ abbrev pub texts_at : List (List ℕ) → Record → List (List ℕ)
 texts_at keys this = map (λ key. tag_text key this.series) keys
 
 -- the records that have the same texts of the grouping tags
-pub record Group : Type 0 where
+pub record RecordGroup : Type 0 where
   pub texts : List (List ℕ)
   pub members : List Record
 
@@ -64,10 +64,10 @@ abbrev pub ascending_lists : List (List (List ℕ)) → List (List (List ℕ))
 ascending_lists lists = fold (λ some texts. insert_key (slice_cmp (slice_cmp nat_cmp)) some texts) [] lists
 
 -- the groups of records, ascending by their texts
-abbrev pub groups_of : List (List ℕ) → List Record → List Group
+abbrev pub groups_of : List (List ℕ) → List Record → List RecordGroup
 groups_of keys records =
     map (λ texts. record { texts = texts; members = filter (λ this. is_same_texts texts (texts_at keys this)) records })
     (ascending_lists (map (texts_at keys) records))
 
-abbrev pub groups : Select → Points → List Group
-groups select points = groups_of (grouping_keys select points) (kept select points)
+abbrev pub record_groups : Select → Points → List RecordGroup
+record_groups select points = groups_of (grouping_keys select points) (kept select points)

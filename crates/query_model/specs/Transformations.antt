@@ -7,7 +7,7 @@ use Rattle.tsdb_types.specs.declared.value.Kind.TheVariants.{Integer}
 use Rattle.point_model.specs.Rows.{Row}
 use Rattle.query_model.specs.declared.items.Trans.{Trans}
 use Rattle.query_model.specs.declared.items.Trans.TheVariants.{Difference, CumulativeSum, Elapsed}
-use Rattle.query_model.specs.Exact.{Exact, number, number_of}
+use Rattle.query_model.specs.Exact.{Exact, number, value_as_number}
 
 -- a time, and what is shown at it
 abbrev pub ExactRow : Type 0
@@ -28,17 +28,17 @@ one_a_time (row ∷ rows) = row ∷ one_a_time_behind row.0 rows
 abbrev pub differences_from : Row → List Row → List ExactRow
 differences_from before [] = []
 differences_from before (row ∷ rows) =
-    (row.0, number (kind_of row.1) (number_of row.1 -ℤ number_of before.1)) ∷ differences_from row rows
+    (row.0, number (kind_of row.1) (value_as_number row.1 -ℤ value_as_number before.1)) ∷ differences_from row rows
 
-abbrev pub differences : List Row → List ExactRow
-differences [] = []
-differences (row ∷ rows) = differences_from row rows
+abbrev pub row_differences : List Row → List ExactRow
+row_differences [] = []
+row_differences (row ∷ rows) = differences_from row rows
 
 -- the sum up to each row, onto what was summed before
 abbrev pub sums_onto : ℤ → List Row → List ExactRow
 sums_onto sum [] = []
 sums_onto sum (row ∷ rows) =
-    (row.0, number (kind_of row.1) (sum +ℤ number_of row.1)) ∷ sums_onto (sum +ℤ number_of row.1) rows
+    (row.0, number (kind_of row.1) (sum +ℤ value_as_number row.1)) ∷ sums_onto (sum +ℤ value_as_number row.1) rows
 
 -- the times from row to row, in whole units
 abbrev pub times_from : ℤ → ℤ → List Row → List ExactRow
@@ -51,6 +51,6 @@ elapsed unit (row ∷ rows) = times_from unit row.0 rows
 
 -- what the transformation gives of the values of a field in a group, by time and then by series
 abbrev pub transformed : Trans → List Row → List ExactRow
-transformed Difference rows = differences (one_a_time rows)
+transformed Difference rows = row_differences (one_a_time rows)
 transformed CumulativeSum rows = sums_onto (pos 0) rows
 transformed (Elapsed unit) rows = elapsed unit rows

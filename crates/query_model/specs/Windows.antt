@@ -11,7 +11,7 @@ use Rattle.query_model.specs.declared.items.AggItem.{AggItem}
 use Rattle.query_model.specs.declared.select.Fill.{Fill}
 use Rattle.query_model.specs.declared.select.Fill.TheVariants as fill
 use Rattle.query_model.specs.declared.select.Select.{Select}
-use Rattle.query_model.specs.Aggregates.{folded, values_of}
+use Rattle.query_model.specs.Aggregates.{folded, field_values}
 use Rattle.query_model.specs.Exact.{Exact, number}
 use Rattle.query_model.specs.Records.{Record, value_in}
 use Rattle.query_model.specs.Selected.{highest_time}
@@ -21,13 +21,13 @@ abbrev pub window_start : ℤ → ℤ → ℤ → ℤ
 window_start length offset time = (int_div_euclid (time -ℤ offset) length *ℤ length) +ℤ offset
 
 -- an item has a value in the record
-abbrev pub has_value : List AggItem → Record → Bool
-has_value items this = list_any (λ item. is_some (value_in item.field this)) items
+abbrev pub has_item_value : List AggItem → Record → Bool
+has_item_value items this = list_any (λ item. is_some (value_in item.field this)) items
 
 -- the time of the earliest record with a value of an item
 abbrev pub earliest_time : List AggItem → List Record → Option ℤ
 earliest_time items [] = None
-earliest_time items (this ∷ records) = if has_value items this then Some this.time else earliest_time items records
+earliest_time items (this ∷ records) = if has_item_value items this then Some this.time else earliest_time items records
 
 -- a list of windows of one length, one behind the other
 pub record Span : Type 0 where
@@ -52,14 +52,14 @@ pub record AggRow : Type 0 where
   pub cells : List (Option Exact)
 
 abbrev pub cells_of : List AggItem → List Record → List (Option Exact)
-cells_of items records = map (λ item. folded item.call (values_of item.field records)) items
+cells_of items records = map (λ item. folded item.call (field_values item.field records)) items
 
 -- the records of the window that starts there
 abbrev pub members_at : (ℤ × ℤ) → ℤ → List Record → List Record
 members_at windows start records = filter (λ this. int_eq (window_start windows.0 windows.1 this.time) start) records
 
-abbrev pub rows_at : (ℤ × ℤ) → List AggItem → List Record → List ℤ → List AggRow
-rows_at windows items records starts =
+abbrev pub agg_rows_at : (ℤ × ℤ) → List AggItem → List Record → List ℤ → List AggRow
+agg_rows_at windows items records starts =
     map (λ start. record { time = start; cells = cells_of items (members_at windows start records) }) starts
 
 -- a count of nothing is 0, and nothing else is made of nothing

@@ -23,7 +23,7 @@ use Rattle.query_model.specs.declared.tables.Table.{Table}
 use Rattle.query_model.specs.declared.tables.TagText.{TagText}
 use Rattle.query_model.specs.Answers.{rows, tables, refused}
 use Rattle.query_model.specs.Conditions.{True, Compare, Or}
-use Rattle.query_model.specs.Lists.{lists_of}
+use Rattle.query_model.specs.Lists.{show_lists}
 use Rattle.query_model.specs.Refusals.{bad_argument, sum_range}
 
 abbrev pub cell : List ℕ → List ℕ → ℤ → Cell
@@ -206,14 +206,14 @@ pub record WorkedRows : Type 0 where
   pub max_in_range : rows great_points (one_call agg.Max) ≡ tables (table [] (codes "max" ∷ []) (row (pos 1) (integer (pos 9223372036854775807) ∷ []) ∷ []) ∷ [])
   pub earlier_of_equal : rows equal_points (one_call agg.Max) ≡ tables (table [] (codes "max" ∷ []) (row (pos 10) (integer (pos 5) ∷ []) ∷ []) ∷ [])
   pub truths_have_no_sum : rows other_points sum_of_truths ≡ refused bad_argument
-  pub tag_values : lists_of three_points (show.TagValues None (codes "host"))
+  pub tag_values : show_lists three_points (show.TagValues None (codes "host"))
       ≡ list (codes "name: cpu" ∷ codes "key value" ∷ []) (codes "host a" ∷ codes "host b" ∷ []) ∷ []
-  pub dash_is_told_apart : lists_of other_points (show.TagValues None (codes "host"))
+  pub dash_is_told_apart : show_lists other_points (show.TagValues None (codes "host"))
       ≡ list (codes "name: cpu" ∷ codes "key value" ∷ []) (codes "host \\-" ∷ []) ∷ []
-  pub field_keys : lists_of other_points (show.FieldKeys None)
+  pub field_keys : show_lists other_points (show.FieldKeys None)
       ≡ list (codes "name: cpu" ∷ codes "fieldKey fieldType" ∷ []) (codes "on boolean" ∷ [])
       ∷ list (codes "name: mem" ∷ codes "fieldKey fieldType" ∷ []) (codes "v unsigned" ∷ []) ∷ []
-  pub series_of_none : lists_of three_points (show.Series (Some (codes "mem"))) ≡ []
+  pub series_of_none : show_lists three_points (show.Series (Some (codes "mem"))) ≡ []
   pub star : rows three_points all_by_all ≡ tables
       (table (record { key = codes "host"; value = codes "a" } ∷ []) (codes "v" ∷ [])
       (row (pos 10) (integer (pos 1) ∷ []) ∷ row (pos 30) (integer (pos 4) ∷ []) ∷ [])

@@ -1,7 +1,7 @@
+use mem_disk::MemDisk;
 use session_io::{
     Client, Clock, Closed, Desk, End, MemClock, MemDesk, MemSink, MemSource, Report, Sink, Source,
 };
-use mem_disk::MemDisk;
 use shard_disk::{Disk, Fault, Trouble};
 use std::test::Fail;
 use tsdb_types::Time;
@@ -96,12 +96,18 @@ fn desk_hands_out_each_directory_once(rt: HostRuntime) -> Result<(), Fail> {
         Vec::new(alloc),
         Vec::new(alloc),
     );
-    assert!(rt; desk.open_dir("other").is_err(), "no directory has this path");
+    assert!(rt;
+        desk.open_dir("other").is_err(),
+        "no directory has this path"
+    );
     let disk = desk.open_dir("db")?;
     assert!(rt; desk.open_dir("db").is_err(), "the directory is out");
     desk.close_dir(disk);
     let closed = desk.into_closed();
     assert_eq!(rt; closed.len(), 1);
-    assert!(rt; matches!(closed[0], Closed::Dir(_)), "a directory was closed");
+    assert!(rt;
+        matches!(closed[0], Closed::Dir(_)),
+        "a directory was closed"
+    );
     Ok(())
 }

@@ -14,7 +14,7 @@ use Rattle.point_model.specs.Points.{Points, cell_cmp, value_at}
 use Rattle.point_model.proofs.StoredLemmas.{agrees, by_values}
 use Rattle.point_model.specs.Contents.{live, spared}
 use Rattle.shard_core.specs.Contents.{held}
-use Rattle.shard_core.specs.Taken.{Accepts, Admits}
+use Rattle.shard_core.specs.Taken.{AcceptsFields, Admits}
 
 pub live_covered : (deletion : Deletion) (points : Points) (before now : Cell → Bool) → ((cell : Cell) → IsSome (value_at points cell) → now cell ≡ (before cell || is_deleted deletion cell))
     → (cell : Cell) → live points now cell ≡ spared deletion (live points before) cell
@@ -37,5 +37,5 @@ pub admitted : (points : Points) (entry : Entry) → Takes points entry → Admi
 admitted points (Write client batch) takes = record { accepted = agrees points batch takes.0; one_kind = takes.1 }
 admitted points (Delete client deletion) takes = tt
 
-pub is_accepted : (points : Points) (batch : List Point) → IsStrictlySortedBy cell_cmp (keys_of points) → Accepts (held points) batch → IsAccepted points batch
+pub is_accepted : (points : Points) (batch : List Point) → IsStrictlySortedBy cell_cmp (keys_of points) → AcceptsFields (held points) batch → IsAccepted points batch
 is_accepted points batch sorted accepts = let both = by_values points batch sorted in both.1 accepts.accepted

@@ -4,19 +4,19 @@ use Rattle.std.specs.List.{AllByRecursion}
 use Rattle.std.proofs.lemmas.Bool.{eqb-true}
 use Rattle.point_model.specs.Cursors.{Key}
 use Rattle.point_model.specs.Points.{Points, no_points}
-use Rattle.shard_core.specs.Crashes.{Opens, opened}
+use Rattle.shard_core.specs.Crashes.{OpensDirectory, opened}
 use Rattle.shard_core.specs.Invariant.{MergeStands}
 use Rattle.shard_core.specs.MergeEvents.{EndsMerge, IsFileOfMerge, file_of_merge}
-use Rattle.shard_core.specs.Numbers.{count, named, names_of}
-use Rattle.shard_core.specs.SnapshotEvents.{EndsSnapshot, IsFileOf, file_of, name_all, without_snapshot}
-use Rattle.shard_core.specs.State.{Core, File, Merge, Snapshot, empty}
-use Rattle.shard_core.specs.Taken.{IsReadable}
+use Rattle.shard_core.specs.Numbers.{count, times_named, names_of}
+use Rattle.shard_core.specs.SnapshotEvents.{EndsSnapshot, IsFileOf, snapshot_file, name_all, without_snapshot}
+use Rattle.shard_core.specs.State.{Core, File, Merge, Snapshot, empty_image}
+use Rattle.shard_core.specs.Taken.{IsReadableImage}
 use Rattle.shard_core.proofs.ListLemmas.{all_right, count-append, names-append, names_same}
 use Rattle.shard_core.proofs.Standing.{Standing}
 
 -- nothing names the number
 abbrev IsUnused : Core → ℕ → Type 0
-IsUnused core number = named core number ≡ 0
+IsUnused core number = times_named core number ≡ 0
 
 abbrev bit : Bool → ℕ
 bit b = cond b 1 0
@@ -59,7 +59,7 @@ module _ (core : Core) (inv : Standing core) (snapshot : Snapshot) (out : core.s
     where
       by : (points : Points) → snapshot.points ≡ points → (new : Core) × EndsSnapshot core new
       by [] e = ends_with [] (inl (e, refl)) (λ n. let was = inv.once n in omega arith)
-      by (point ∷ points) e = ends_with (file_of snapshot number None ∷ []) (inr ((λ none. let f = sym e ∙ none in absurd (cc)), (number, None, refl))) (one_more core inv number unused)
+      by (point ∷ points) e = ends_with (snapshot_file snapshot number None ∷ []) (inr ((λ none. let f = sym e ∙ none in absurd (cc)), (number, None, refl))) (one_more core inv number unused)
 
 -- a file where the output has a point, else none
 output_file : (core : Core) → Standing core → (merge : Merge) (number : ℕ) → IsUnused core number → (points : Points) → merge.output ≡ points
@@ -90,13 +90,13 @@ merge_ends core inv earlier merge others listed number unused =
     )
 
 -- an empty directory can be read
-pub empty_readable : IsReadable empty
+pub empty_readable : IsReadableImage empty_image
 empty_readable = record { kinds = λ a b v w first second same. absurd first; takes = tt }
 
 -- and opened, with no points and no keys
-pub empty_opens : (new : Core) × Opens empty new
+pub empty_opens : (new : Core) × OpensDirectory empty_image new
 empty_opens = (
-  opened empty no_points no_keys no_keys,
+  opened empty_image no_points no_keys no_keys,
   record { points = no_points; are = λ cell. refl; index = no_keys; stored = no_keys; is_index = λ key. ((λ is. absurd (cc)), (λ has. absurd (none_there has.1))); same = refl },
 )
   where

@@ -21,12 +21,12 @@ use Rattle.point_model.specs.Cursors.{HasKey}
 use Rattle.point_model.specs.Effects.{Effect, applied, effect, is_deleted_by, set_by, written}
 use Rattle.shard_core.specs.Contents.{held}
 use Rattle.shard_core.specs.EntryEvents.{Deletes, HasOfKey, Writes, cut_file, cut_merge, cut_snapshot, key_of_point, with_delete, with_write}
-use Rattle.shard_core.specs.Invariant.{IsIndex, MergeStands, Shows, ViewShows}
-use Rattle.shard_core.specs.Numbers.{AreApart, Climbs, count, held_by_views}
-use Rattle.shard_core.specs.Parts.{FileIsCut, Parts}
-use Rattle.shard_core.specs.Files.{generation_of, now_of, number_of, source_numbers}
+use Rattle.shard_core.specs.Invariant.{IsIndex, MergeStands, ShowsHistory, ViewShows}
+use Rattle.shard_core.specs.Numbers.{AreDisjoint, Climbs, count, held_by_views}
+use Rattle.shard_core.specs.Parts.{FileIsCut, StandsInParts}
+use Rattle.shard_core.specs.Files.{generation_of, now_of, file_number, source_numbers}
 use Rattle.shard_core.specs.Shown.{contents_of, snapshot_contents}
-use Rattle.shard_core.specs.State.{Core, Merge, points_of}
+use Rattle.shard_core.specs.State.{Core, Merge, points_now}
 use Rattle.shard_core.proofs.ListLemmas.{all_over, all_over_map, held_same, names_same, same_map}
 use Rattle.shard_core.proofs.Standing.{Standing}
 use Rattle.shard_core.proofs.PartLemmas
@@ -100,7 +100,7 @@ module _ (client : ℕ) (points : List Point) (index : Key → Bool) (core : Cor
   abbrev write : Entry
   write = Write client points
 
-  write_shows : Shows (with_write client points index core)
+  write_shows : ShowsHistory (with_write client points index core)
   write_shows cell =
       let older : Option Value = option_or (overlay (snapshot_contents core.snapshot) cell) (overlay (map now_of core.files) cell) in
       PartLemmas.shown_is core.files core.snapshot (with_points core.cache points) cell
@@ -109,7 +109,7 @@ module _ (client : ℕ) (points : List Point) (index : Key → Bool) (core : Cor
       ∙ ap (λ (o : Option Value). applied (written points cell) o) (sym (PartLemmas.shown_is core.files core.snapshot core.cache cell) ∙ inv.shows cell)
       ∙ sym (PartLemmas.value_more core.start.points core.history write cell)
 
-  write_parts : Parts (with_write client points index core)
+  write_parts : StandsInParts (with_write client points index core)
   write_parts =
       let parts = inv.parts in
       record {
@@ -130,21 +130,21 @@ module _ (client : ℕ) (points : List Point) (index : Key → Bool) (core : Cor
   write_index : IsIndex (after core.start.points (core.history ++ write ∷ [])) index
   write_index key = (
     λ is. ⊎_elim
-        (λ old. let has = (let was = inv.index key in was.0 old) in now_there has.0 (inl (some_there (value_at (points_of core) (cell_at key has.0)) has.1)))
+        (λ old. let has = (let was = inv.index key in was.0 old) in now_there has.0 (inl (some_there (value_at (points_now core) (cell_at key has.0)) has.1)))
         (λ new. let has = written_there key points new in now_there has.0 (inr has.1))
         (let a = added key in a.0 is),
     λ has. let a = added key in a.1 (⊎_elim
-        (λ old. inl (let was = inv.index key in was.1 (has.0, there_some (value_at (points_of core) (cell_at key has.0)) old)))
+        (λ old. inl (let was = inv.index key in was.1 (has.0, there_some (value_at (points_now core) (cell_at key has.0)) old)))
         (λ new. inr (there_written key has.0 points new))
-        (set_touches (written points (cell_at key has.0)) (value_at (points_of core) (cell_at key has.0)) (written_sets points (cell_at key has.0))
+        (set_touches (written points (cell_at key has.0)) (value_at (points_now core) (cell_at key has.0)) (written_sets points (cell_at key has.0))
         (λ none. some_there (value_at (after core.start.points (core.history ++ write ∷ [])) (cell_at key has.0)) has.1 (PartLemmas.value_more core.start.points core.history write (cell_at key has.0) ∙ none)))),
   )
     where
-      now_there : (time : ℤ) → (value_at (points_of core) (cell_at key time) ≢ None) ⊎ (written points (cell_at key time) ≢ None) → HasKey (held (after core.start.points (core.history ++ write ∷ []))) key
+      now_there : (time : ℤ) → (value_at (points_now core) (cell_at key time) ≢ None) ⊎ (written points (cell_at key time) ≢ None) → HasKey (held (after core.start.points (core.history ++ write ∷ []))) key
       now_there time some = (
         time,
         there_some (value_at (after core.start.points (core.history ++ write ∷ [])) (cell_at key time))
-            (λ none. touches_set (written points (cell_at key time)) (value_at (points_of core) (cell_at key time)) (written_sets points (cell_at key time)) some
+            (λ none. touches_set (written points (cell_at key time)) (value_at (points_now core) (cell_at key time)) (written_sets points (cell_at key time)) some
             (sym (PartLemmas.value_more core.start.points core.history write (cell_at key time)) ∙ none)),
       )
 
@@ -168,7 +168,7 @@ module _ (client : ℕ) (deletion : Deletion) (index : Key → Bool) (core : Cor
   abbrev delete : Entry
   delete = Delete client deletion
 
-  delete_shows : Shows (with_delete client deletion index core)
+  delete_shows : ShowsHistory (with_delete client deletion index core)
   delete_shows cell =
       let deleted : Bool = is_deleted deletion cell in
       let c : Option Value = value_at core.cache cell in
@@ -182,7 +182,7 @@ module _ (client : ℕ) (deletion : Deletion) (index : Key → Bool) (core : Cor
       ∙ deleted_value deleted (value_at (after core.start.points core.history) cell)
       ∙ sym (PartLemmas.value_more core.start.points core.history delete cell)
 
-  delete_parts : Parts (with_delete client deletion index core)
+  delete_parts : StandsInParts (with_delete client deletion index core)
   delete_parts =
       let parts = inv.parts in
       record {
@@ -201,7 +201,7 @@ module _ (client : ℕ) (deletion : Deletion) (index : Key → Bool) (core : Cor
       }
 
   numbers_cut : (merge : Merge) → source_numbers (cut_merge deletion merge) ≡ source_numbers merge
-  numbers_cut merge = same_map number_of (cut_file deletion) (λ file. refl) merge.sources
+  numbers_cut merge = same_map file_number (cut_file deletion) (λ file. refl) merge.sources
 
   delete_index : IsIndex (after core.start.points (core.history ++ delete ∷ [])) index
   delete_index key = (
@@ -209,9 +209,9 @@ module _ (client : ℕ) (deletion : Deletion) (index : Key → Bool) (core : Cor
     λ has. let l = left key in l.1 (
       let was = inv.index key in was.1 (
         has.0,
-        there_some (value_at (points_of core) (cell_at key has.0)) (λ none. some_there (value_at (after core.start.points (core.history ++ delete ∷ [])) (cell_at key has.0)) has.1
-            (PartLemmas.value_more core.start.points core.history delete (cell_at key has.0) ∙ sym (deleted_value (is_deleted deletion (cell_at key has.0)) (value_at (points_of core) (cell_at key has.0)))
-            ∙ gone (is_deleted deletion (cell_at key has.0)) (value_at (points_of core) (cell_at key has.0)) none)),
+        there_some (value_at (points_now core) (cell_at key has.0)) (λ none. some_there (value_at (after core.start.points (core.history ++ delete ∷ [])) (cell_at key has.0)) has.1
+            (PartLemmas.value_more core.start.points core.history delete (cell_at key has.0) ∙ sym (deleted_value (is_deleted deletion (cell_at key has.0)) (value_at (points_now core) (cell_at key has.0)))
+            ∙ gone (is_deleted deletion (cell_at key has.0)) (value_at (points_now core) (cell_at key has.0)) none)),
       ),
       (has.0, subst IsSome (sym (delete_shows (cell_at key has.0))) has.1),
     ),
@@ -226,11 +226,11 @@ module _ (client : ℕ) (deletion : Deletion) (index : Key → Bool) (core : Cor
     shows = delete_shows;
     views = all_over (ViewShows core.start core.history) (ViewShows core.start (core.history ++ delete ∷ [])) (PartLemmas.view_more core.start core.history (delete ∷ [])) core.views inv.views;
     merges = all_over_map (MergeStands core.files) (MergeStands (map (cut_file deletion) core.files)) (cut_merge deletion) (PartLemmas.merge_cut deletion core.files) core.merges inv.merges;
-    apart = subst AreApart (sym (same_map source_numbers (cut_merge deletion) numbers_cut core.merges)) inv.apart;
+    apart = subst AreDisjoint (sym (same_map source_numbers (cut_merge deletion) numbers_cut core.merges)) inv.apart;
     parts = delete_parts;
     generations = subst (λ (ns : List ℕ). Climbs 0 ns (suc core.floor)) (sym (same_map generation_of (cut_file deletion) (λ file. refl) core.files)) inv.generations;
     holds = λ n. inv.holds n ∙ ap (λ (h : ℕ). held_by_views n core.views + h) (sym (held_same n (cut_merge deletion) numbers_cut core.merges));
-    present = λ n held. subst (λ (ns : List ℕ). 0 < count n ns + count n core.condemned) (sym (same_map number_of (cut_file deletion) (λ file. refl) core.files)) (inv.present n held);
+    present = λ n held. subst (λ (ns : List ℕ). 0 < count n ns + count n core.condemned) (sym (same_map file_number (cut_file deletion) (λ file. refl) core.files)) (inv.present n held);
     once = λ n. subst (λ (ns : List ℕ). count n ns + count n core.condemned ≤ 1) (sym (names_same (cut_file deletion) (λ file. refl) (λ file. refl) core.files)) (inv.once n);
     edit = PartLemmas.edit_more core.start core.history delete core.edit inv.edit;
     index = delete_index;

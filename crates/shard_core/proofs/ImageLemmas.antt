@@ -14,14 +14,14 @@ use Rattle.point_model.specs.Points.{Points, no_points, value_at}
 use Rattle.point_model.proofs.EffectLemmas.{IsSet, effects-append, value_after, written_sets}
 use Rattle.point_model.specs.Contents.{Content, overlay}
 use Rattle.point_model.specs.Effects.{Effect, applied, effects, is_deleted_by, written}
-use Rattle.shard_core.specs.Crashes.{Images, MayLeave, Opens, opened, opened_file}
+use Rattle.shard_core.specs.Crashes.{Images, MayLeave, OpensDirectory, opened, opened_file}
 use Rattle.shard_core.specs.Images.{ImageStands, IsDirectory, image_value}
 use Rattle.shard_core.specs.Invariant.{IsIndex}
 use Rattle.shard_core.specs.Numbers.{Climbs, count, stored_names}
-use Rattle.shard_core.specs.Parts.{FileIsCut, IfSnapshotIs, Parts}
+use Rattle.shard_core.specs.Parts.{FileIsCut, IfSnapshotIs, StandsInParts}
 use Rattle.shard_core.specs.Files.{content_in, generation_in, generation_of, now_of, on_disk, stored_of}
 use Rattle.shard_core.specs.Shown.{contents_in, image_of, snapshot_contents}
-use Rattle.shard_core.specs.State.{Core, File, Image, Snapshot, Stored}
+use Rattle.shard_core.specs.State.{Core, File, Image, Snapshot, StoredFile}
 use Rattle.shard_core.proofs.ListLemmas.{map_of_map}
 use Rattle.shard_core.proofs.MergeLaws.{overlay_hidden}
 use Rattle.shard_core.proofs.PartLemmas.{image_more, shown_is}
@@ -125,7 +125,7 @@ parts_show files snapshot cache floor first second has is follow cell =
     ∙ ap (λ (e : Effect). applied e (overlay (map on_disk files) cell)) (sym (effects-append first second cell))
 
 module _ (core : Core) (inv : Standing core) where
-  abbrev parts : Parts core
+  abbrev parts : StandsInParts core
   parts = inv.parts
 
   pub entries_are : drop (core.floor - core.origin) (core.past ++ core.history) ≡ parts.first ++ parts.second
@@ -170,17 +170,17 @@ module _ (core : Core) (inv : Standing core) where
       (subst (ImageStands core.start (core.history ++ doubt.0 ∷ [])) (sym doubt.3.2) (image_more core.start core.history doubt.0 doubt.3.0 (each_stands doubt.3.0 doubt.3.1))))
       left
 
-opened_follows : (entries : List Entry) (file : Stored) → FileIsCut entries (opened_file entries file)
+opened_follows : (entries : List Entry) (file : StoredFile) → FileIsCut entries (opened_file entries file)
 opened_follows entries file = record {
   hidden = λ cell e. ap (λ (b : Bool). cond b None (file.content cell)) e;
   kept = λ cell e. ap (λ (b : Bool). cond b None (file.content cell)) e;
 }
 
-stored_opened : (entries : List Entry) (files : List Stored) → map stored_of (map (opened_file entries) files) ≡ files
+stored_opened : (entries : List Entry) (files : List StoredFile) → map stored_of (map (opened_file entries) files) ≡ files
 stored_opened entries [] = refl
-stored_opened entries (file ∷ files) = ap (λ (fs : List Stored). file ∷ fs) (stored_opened entries files)
+stored_opened entries (file ∷ files) = ap (λ (fs : List StoredFile). file ∷ fs) (stored_opened entries files)
 
-all_opened : (entries : List Entry) (files : List Stored) → AllByRecursion (FileIsCut entries) (map (opened_file entries) files)
+all_opened : (entries : List Entry) (files : List StoredFile) → AllByRecursion (FileIsCut entries) (map (opened_file entries) files)
 all_opened entries [] = tt
 all_opened entries (file ∷ files) = (opened_follows entries file, all_opened entries files)
 
@@ -209,10 +209,10 @@ module _ (image : Image) (points : Points) (directory : IsDirectory image) (are 
     generations = subst (λ (ns : List ℕ). Climbs 0 ns (suc image.floor)) (sym (map_of_map (opened_file image.entries) generation_of generation_in (λ file. refl) image.files)) directory.generations;
     holds = λ n. refl;
     present = λ n held. absurd (let e = held in omega arith);
-    once = λ n. let a = directory.once n in let b = ap (λ (files : List Stored). count n (stored_names files)) (stored_opened image.entries image.files) in omega arith;
+    once = λ n. let a = directory.once n in let b = ap (λ (files : List StoredFile). count n (stored_names files)) (stored_opened image.entries image.files) in omega arith;
     edit = tt;
     index = is_index;
   }
 
-pub opens_keeps : (image : Image) (core : Core) → IsDirectory image → Opens image core → Standing core
+pub opens_keeps : (image : Image) (core : Core) → IsDirectory image → OpensDirectory image core → Standing core
 opens_keeps image core directory opens = subst Standing (sym opens.same) (opened_keeps image opens.points directory opens.are opens.index opens.stored opens.is_index)

@@ -19,17 +19,17 @@ use Rattle.point_model.proofs.FieldLemmas.{same_field, same_field-sym}
 use Rattle.point_model.specs.Contents.{Content, overlay}
 use Rattle.point_model.specs.Effects.{Effect, applied, is_deleted_by, written}
 use Rattle.shard_core.specs.Contents.{held}
-use Rattle.shard_core.specs.DiskEvents.{Records, name_some}
+use Rattle.shard_core.specs.DiskEvents.{RecordsFiles, name_some}
 use Rattle.shard_core.specs.EntryEvents.{Deletes, Writes, cut_file, cut_snapshot}
 use Rattle.shard_core.specs.Invariant.{MergeStands}
 use Rattle.shard_core.specs.Kinds.{HasLive, KindsAgree, OneKind}
 use Rattle.shard_core.specs.MergeEvents.{EndsMerge, IsFileOfMerge, file_of_merge}
 use Rattle.shard_core.specs.Parts.{FileIsCut}
-use Rattle.shard_core.specs.SnapshotEvents.{BeginsSnapshot, EndsSnapshot, IsFileOf, file_of, name_all}
+use Rattle.shard_core.specs.SnapshotEvents.{BeginsSnapshot, EndsSnapshot, IsFileOf, snapshot_file, name_all}
 use Rattle.shard_core.specs.Files.{now_of, on_disk}
 use Rattle.shard_core.specs.Shown.{contents_in, contents_of, snapshot_contents}
-use Rattle.shard_core.specs.State.{Core, File, Merge, Snapshot, points_of}
-use Rattle.shard_core.specs.Taken.{Accepts}
+use Rattle.shard_core.specs.State.{Core, File, Merge, Snapshot, points_now}
+use Rattle.shard_core.specs.Taken.{AcceptsFields}
 use Rattle.shard_core.proofs.EntryLaws.{cell_same}
 use Rattle.shard_core.proofs.ListLemmas.{all_left, all_right, placed_map}
 use Rattle.shard_core.proofs.Standing.{Standing}
@@ -147,7 +147,7 @@ pub disk_all : (tombs : File → Option ℕ) (files : List File) → map on_disk
 disk_all tombs [] = refl
 disk_all tombs (file ∷ files) = ap (λ (ls : List Content). file.now ∷ ls) (disk_all tombs files)
 
-pub made_within : (snapshot : Snapshot) (made : List File) → IsFileOf snapshot made → (read : File → Content) → ((number : ℕ) (tomb : Option ℕ) → read (file_of snapshot number tomb) ≡ snapshot.now)
+pub made_within : (snapshot : Snapshot) (made : List File) → IsFileOf snapshot made → (read : File → Content) → ((number : ℕ) (tomb : Option ℕ) → read (snapshot_file snapshot number tomb) ≡ snapshot.now)
     → Within (map read made) (snapshot.now ∷ [])
 made_within snapshot made is_made read reads =
     ⊎_elim (λ none. subst (λ (files : List File). Within (map read files) (snapshot.now ∷ [])) (sym none.1) (λ cell value has. absurd has))
@@ -262,7 +262,7 @@ within_now chosen tombs (file ∷ files) cell value (inl is) = inl (by (chosen f
     by true is = is
     by false is = is
 
-pub record_kinds : (old new : Core) → Records old new → Standing old → KindsAgree old → KindsAgree new
+pub record_kinds : (old new : Core) → RecordsFiles old new → Standing old → KindsAgree old → KindsAgree new
 record_kinds old new records inv kinds =
     let files = map (name_some records.chosen records.tombs) old.files in
     let parts = inv.parts in
@@ -310,14 +310,14 @@ written_or_old contents cache points cell value has =
     (live_either contents (held (with_points cache points) ∷ []) cell value has)
 
 -- contents with the same cells accept the same
-pub shown_accepts : (first second : Content) (points : List Point) → ((cell : Cell) → first cell ≡ second cell) → Accepts second points → Accepts first points
+pub shown_accepts : (first second : Content) (points : List Point) → ((cell : Cell) → first cell ≡ second cell) → AcceptsFields second points → AcceptsFields first points
 shown_accepts first second points same accepts = record {
   accepted = λ cell value e. accepts.accepted cell value (sym (same cell) ∙ e);
   one_kind = accepts.one_kind;
 }
 
 -- a live cell and a point of the batch: what shows at the cell has its kind, and is accepted
-meets : (contents : List Content) (points : List Point) → Accepts (overlay contents) points → OneKind contents → (a b : Cell) (v w : Value) → HasLive contents a v → IsWritten points b w → IsTrue (is_same_field a b)
+meets : (contents : List Content) (points : List Point) → AcceptsFields (overlay contents) points → OneKind contents → (a b : Cell) (v w : Value) → HasLive contents a v → IsWritten points b w → IsTrue (is_same_field a b)
     → kind_of v ≡ kind_of w
 meets contents points accepts kinds a b v w has new same =
     let shown = live_shows contents a v has in
@@ -334,7 +334,7 @@ both points one a b v w first second same =
     ∙ ap kind_of second.has
 
 -- a write leaves one kind where the contents accept it
-pub write_one : (contents : List Content) (cache : Points) (points : List Point) → Accepts (overlay (contents ++ held cache ∷ [])) points → OneKind (contents ++ held cache ∷ [])
+pub write_one : (contents : List Content) (cache : Points) (points : List Point) → AcceptsFields (overlay (contents ++ held cache ∷ [])) points → OneKind (contents ++ held cache ∷ [])
     → OneKind (contents ++ held (with_points cache points) ∷ [])
 write_one contents cache points accepts kinds a b v w first second same =
     let all = contents ++ held cache ∷ [] in
@@ -343,7 +343,7 @@ write_one contents cache points accepts kinds a b v w first second same =
     (λ new_a. ⊎_elim (λ old_b. sym (meets all points accepts kinds b a w v old_b new_a (same_field-sym a b same))) (λ new_b. both points accepts.one_kind a b v w new_a new_b same) (written_or_old contents cache points b w second))
     (written_or_old contents cache points a v first)
 
-pub write_kinds : (old new : Core) → (writes : Writes old new) → Accepts (held (points_of old)) writes.points → Standing old → KindsAgree old → KindsAgree new
+pub write_kinds : (old new : Core) → (writes : Writes old new) → AcceptsFields (held (points_now old)) writes.points → Standing old → KindsAgree old → KindsAgree new
 write_kinds old new writes accepts inv kinds =
     let contents = map now_of old.files ++ snapshot_contents old.snapshot in
     let first = sym (append_assoc (map now_of old.files) (snapshot_contents old.snapshot) (held old.cache ∷ [])) in
@@ -352,7 +352,7 @@ write_kinds old new writes accepts inv kinds =
     record {
       now = subst OneKind second
           (write_one contents old.cache writes.points
-          (subst (λ (cs : List Content). Accepts (overlay cs) writes.points) first (shown_accepts (overlay (contents_of old)) (held (points_of old)) writes.points inv.shows accepts))
+          (subst (λ (cs : List Content). AcceptsFields (overlay cs) writes.points) first (shown_accepts (overlay (contents_of old)) (held (points_now old)) writes.points inv.shows accepts))
           (subst OneKind first kinds.now));
       disk = kinds.disk;
     }

@@ -6,8 +6,8 @@ use Rattle.std.proofs.lemmas.Bool.{eqb-true}
 use Rattle.std.specs.Option.{option_to_list}
 use Rattle.std.proofs.lemmas.List.{map-append}
 use Rattle.shard_core.specs.MergeEvents.{newest_generation}
-use Rattle.shard_core.specs.Numbers.{AreApart, Climbs, ShareNone, count, held_by_merges, held_by_views, names_of}
-use Rattle.shard_core.specs.Files.{generation_of, number_of, source_numbers, tomb_of}
+use Rattle.shard_core.specs.Numbers.{AreDisjoint, Climbs, ShareNone, count, held_by_merges, held_by_views, names_of}
+use Rattle.shard_core.specs.Files.{generation_of, file_number, source_numbers, tombs_of_file}
 use Rattle.shard_core.specs.State.{File, Merge, View}
 
 pub all_over : {A : Type 0} (P Q : A → Type 0) → ((x : A) → P x → Q x) → (xs : List A) → AllByRecursion P xs → AllByRecursion Q xs
@@ -114,11 +114,11 @@ pub record Before (first ends before second behind : List File) : Type 0 where
   pub is_before : before ≡ first ++ between
   pub is_behind : ends ≡ between ++ (second ++ behind)
 
-pub front : (group behind before other rest : List File) → group ++ behind ≡ before ++ (other ++ rest) → ShareNone (map number_of group) (map number_of other) → other ≢ []
+pub front : (group behind before other rest : List File) → group ++ behind ≡ before ++ (other ++ rest) → ShareNone (map file_number group) (map file_number other) → other ≢ []
     → Before group behind before other rest
 front [] behind before other rest e share some = record { between = before; is_before = refl; is_behind = e }
 front (x ∷ group) behind [] [] rest e share some = absurd (some refl)
-front (x ∷ group) behind [] (y ∷ other) rest e share some = absurd (share.0.0 (ap number_of (head_same x y (group ++ behind) (other ++ rest) e)))
+front (x ∷ group) behind [] (y ∷ other) rest e share some = absurd (share.0.0 (ap file_number (head_same x y (group ++ behind) (other ++ rest) e)))
 front (x ∷ group) behind (y ∷ before) other rest e share some =
     let later = front group behind before other rest (tail_same x y (group ++ behind) (before ++ (other ++ rest)) e) share.1 some in
     record {
@@ -137,7 +137,7 @@ three : (a b c d : List File) → (a ++ (b ++ c)) ++ d ≡ a ++ (b ++ (c ++ d))
 three a b c d = append_assoc a (b ++ c) d ∙ ap (λ xs. a ++ xs) (append_assoc b c d)
 
 pub group_stays : (made front_of group behind_of before other behind : List File) → front_of ++ (group ++ behind_of) ≡ before ++ (other ++ behind)
-    → ShareNone (map number_of group) (map number_of other) → group ≢ [] → other ≢ []
+    → ShareNone (map file_number group) (map file_number other) → group ≢ [] → other ≢ []
     → Stays group made before behind
 group_stays made [] group behind_of before other behind e share some some_other =
     let is = front group behind_of before other behind e share some_other in
@@ -147,7 +147,7 @@ group_stays made [] group behind_of before other behind e share some some_other 
       placed = ap (λ xs. xs ++ (made ++ behind)) is.is_before ∙ append_assoc group is.between (made ++ behind);
     }
 group_stays made (x ∷ front_of) group behind_of [] other behind e share some some_other =
-    let is = front other behind (x ∷ front_of) group behind_of (sym e) (share_turned (map number_of other) (map number_of group) share) some in
+    let is = front other behind (x ∷ front_of) group behind_of (sym e) (share_turned (map file_number other) (map file_number group) share) some in
     record {
       before_it = made ++ is.between;
       behind_it = behind_of;
@@ -163,10 +163,10 @@ group_stays made (x ∷ front_of) group behind_of (y ∷ before) other behind e 
 
 -- of lists that are apart, one is taken out
 pub record Without (some : List ℕ) (rest : List (List ℕ)) : Type 0 where
-  pub apart : AreApart rest
+  pub apart : AreDisjoint rest
   pub from_it : AllByRecursion (λ others. ShareNone others some) rest
 
-pub apart_without : (earlier : List (List ℕ)) (some : List ℕ) (others : List (List ℕ)) → AreApart (earlier ++ some ∷ others) → Without some (earlier ++ others)
+pub apart_without : (earlier : List (List ℕ)) (some : List ℕ) (others : List (List ℕ)) → AreDisjoint (earlier ++ some ∷ others) → Without some (earlier ++ others)
 apart_without [] some others apart = record {
   apart = apart.1;
   from_it = all_over (ShareNone some) (λ other. ShareNone other some) (λ other s. share_turned other some s) others apart.0;
@@ -180,7 +180,7 @@ apart_without (first ∷ earlier) some others apart =
       from_it = (right.0, rest.from_it);
     }
 
-pub names_same : (g : File → File) → ((file : File) → number_of (g file) ≡ number_of file) → ((file : File) → tomb_of (g file) ≡ tomb_of file) → (files : List File) → names_of (map g files) ≡ names_of files
+pub names_same : (g : File → File) → ((file : File) → file_number (g file) ≡ file_number file) → ((file : File) → tombs_of_file (g file) ≡ tombs_of_file file) → (files : List File) → names_of (map g files) ≡ names_of files
 names_same g numbers tombs [] = refl
 names_same g numbers tombs (file ∷ files) =
     ap₂ (λ (n : ℕ) (ns : List ℕ). n ∷ ns) (numbers file) (ap₂ (λ (a b : List ℕ). a ++ b) (tombs file) (names_same g numbers tombs files))
@@ -190,12 +190,12 @@ names-append [] others = refl
 names-append (file ∷ files) others =
     ap (λ (ns : List ℕ). file.stored.no ∷ ns) (ap (λ (ns : List ℕ). option_to_list file.stored.tomb ++ ns) (names-append files others) ∙ sym (append_assoc (option_to_list file.stored.tomb) (names_of files) (names_of others)))
 
-pub count_names : (n : ℕ) (files : List File) → count n (names_of files) ≡ count n (map number_of files) + count n (flat_map tomb_of files)
+pub count_names : (n : ℕ) (files : List File) → count n (names_of files) ≡ count n (map file_number files) + count n (flat_map tombs_of_file files)
 count_names n [] = refl
 count_names n (file ∷ files) =
     let e = count_names n files in
-    let a = count-append n (tomb_of file) (names_of files) in
-    let b = count-append n (tomb_of file) (flat_map tomb_of files) in
+    let a = count-append n (tombs_of_file file) (names_of files) in
+    let b = count-append n (tombs_of_file file) (flat_map tombs_of_file files) in
     omega arith
 
 pub held_without_view : (n : ℕ) (earlier : List View) (view : View) (others : List View)

@@ -12,9 +12,9 @@ use Rattle.point_model.specs.Contents.{Content, overlay}
 use Rattle.point_model.specs.Effects.{is_deleted_by}
 use Rattle.shard_core.specs.Invariant.{MergeStands}
 use Rattle.shard_core.specs.MergeEvents.{EndsMerge, IsFileOfMerge, newest_generation}
-use Rattle.shard_core.specs.Numbers.{AreApart, Climbs, ShareNone, count, held_by_merges, names_of}
+use Rattle.shard_core.specs.Numbers.{AreDisjoint, Climbs, ShareNone, count, held_by_merges, names_of}
 use Rattle.shard_core.specs.Parts.{FileIsCut}
-use Rattle.shard_core.specs.Files.{generation_of, now_of, number_of, source_numbers, tomb_of}
+use Rattle.shard_core.specs.Files.{generation_of, now_of, file_number, source_numbers, tombs_of_file}
 use Rattle.shard_core.specs.Shown.{snapshot_contents}
 use Rattle.shard_core.specs.State.{Core, File, Merge}
 use Rattle.shard_core.proofs.ListLemmas.{Without, all_append, all_left, all_right, apart_without, climbs_le, climbs_split, climbs_then, count-append, count_names, group_stays, held_without, names-append, newest_climbs, placed_map}
@@ -42,7 +42,7 @@ overlay_hidden entries (file ∷ files) follow cell e =
 -- each of these files' groups stays, where a group apart from it gives place
 groups_stay : (made before other behind files : List File) → files ≡ before ++ (other ++ behind) → other ≢ []
     → (merges : List Merge) → AllByRecursion (MergeStands files) merges
-    → AllByRecursion (λ numbers. ShareNone numbers (map number_of other)) (map source_numbers merges)
+    → AllByRecursion (λ numbers. ShareNone numbers (map file_number other)) (map source_numbers merges)
     → AllByRecursion (MergeStands (before ++ (made ++ behind))) merges
 groups_stay made before other behind files placed some [] stand apart = tt
 groups_stay made before other behind files placed some (merge ∷ merges) stand apart =
@@ -110,12 +110,12 @@ module _ (core : Core) (inv : Standing core) (merge : Merge) (earlier others : L
 
   apart_now : Without (source_numbers merge) (map source_numbers earlier ++ map source_numbers others)
   apart_now = apart_without (map source_numbers earlier) (source_numbers merge) (map source_numbers others)
-      (subst AreApart (ap (map source_numbers) listed ∙ map-append source_numbers earlier (merge ∷ others)) inv.apart)
+      (subst AreDisjoint (ap (map source_numbers) listed ∙ map-append source_numbers earlier (merge ∷ others)) inv.apart)
 
   pub merge_ended : Standing record core {
     files = before ++ (made ++ behind);
     merges = earlier ++ others;
-    condemned = (source_numbers merge ++ flat_map tomb_of merge.sources) ++ core.condemned;
+    condemned = (source_numbers merge ++ flat_map tombs_of_file merge.sources) ++ core.condemned;
     holds = λ n. core.holds n - count n (source_numbers merge);
     edit = None;
   }
@@ -127,7 +127,7 @@ module _ (core : Core) (inv : Standing core) (merge : Merge) (earlier others : L
         groups_stay made before merge.sources behind core.files placed own.some (earlier ++ others)
         (all_append (MergeStands core.files) earlier others (all_left (MergeStands core.files) earlier (merge ∷ others) all) (let right = all_right (MergeStands core.files) earlier (merge ∷ others) all in right.1))
         (subst (λ (numbers : List (List ℕ)). AllByRecursion (λ ns. ShareNone ns (source_numbers merge)) numbers) (sym (map-append source_numbers earlier others)) apart_now.from_it);
-    apart = subst AreApart (sym (map-append source_numbers earlier others)) apart_now.apart;
+    apart = subst AreDisjoint (sym (map-append source_numbers earlier others)) apart_now.apart;
     parts =
         let parts = inv.parts in
         record {
@@ -148,14 +148,14 @@ module _ (core : Core) (inv : Standing core) (merge : Merge) (earlier others : L
         omega arith;
     present = λ n held.
         let was = inv.present n (let e = held in omega arith) in
-        let files = ap (λ (fs : List File). count n (map number_of fs)) placed ∙ ap (count n) (placed_map number_of before merge.sources behind) in
-        let now = ap (count n) (placed_map number_of before made behind) in
-        let a = count-append n (map number_of before) (map number_of merge.sources ++ map number_of behind) in
-        let b = count-append n (map number_of merge.sources) (map number_of behind) in
-        let c = count-append n (map number_of before) (map number_of made ++ map number_of behind) in
-        let d = count-append n (map number_of made) (map number_of behind) in
-        let e = count-append n (source_numbers merge ++ flat_map tomb_of merge.sources) core.condemned in
-        let f = count-append n (source_numbers merge) (flat_map tomb_of merge.sources) in
+        let files = ap (λ (fs : List File). count n (map file_number fs)) placed ∙ ap (count n) (placed_map file_number before merge.sources behind) in
+        let now = ap (count n) (placed_map file_number before made behind) in
+        let a = count-append n (map file_number before) (map file_number merge.sources ++ map file_number behind) in
+        let b = count-append n (map file_number merge.sources) (map file_number behind) in
+        let c = count-append n (map file_number before) (map file_number made ++ map file_number behind) in
+        let d = count-append n (map file_number made) (map file_number behind) in
+        let e = count-append n (source_numbers merge ++ flat_map tombs_of_file merge.sources) core.condemned in
+        let f = count-append n (source_numbers merge) (flat_map tombs_of_file merge.sources) in
         omega arith;
     once = λ n.
         let u = unused n in
@@ -164,8 +164,8 @@ module _ (core : Core) (inv : Standing core) (merge : Merge) (earlier others : L
         let b = ap (count n) (names-append merge.sources behind) ∙ count-append n (names_of merge.sources) (names_of behind) in
         let c = ap (count n) (names-append before (made ++ behind)) ∙ count-append n (names_of before) (names_of (made ++ behind)) in
         let d = ap (count n) (names-append made behind) ∙ count-append n (names_of made) (names_of behind) in
-        let e = count-append n (source_numbers merge ++ flat_map tomb_of merge.sources) core.condemned in
-        let f = count-append n (source_numbers merge) (flat_map tomb_of merge.sources) in
+        let e = count-append n (source_numbers merge ++ flat_map tombs_of_file merge.sources) core.condemned in
+        let f = count-append n (source_numbers merge) (flat_map tombs_of_file merge.sources) in
         let g = count_names n merge.sources in
         omega arith;
     edit = tt;

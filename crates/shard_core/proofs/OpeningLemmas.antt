@@ -14,13 +14,13 @@ use Rattle.point_model.proofs.EffectLemmas.{deleted_value, overlay-append, overl
 use Rattle.point_model.specs.Contents.{Content, acted, overlay, spared}
 use Rattle.point_model.specs.Effects.{applied, effects, is_deleted_by, written}
 use Rattle.shard_core.specs.Contents.{held, left}
-use Rattle.shard_core.specs.Crashes.{Images, MayLeave, Opens, opened_file}
+use Rattle.shard_core.specs.Crashes.{Images, MayLeave, OpensDirectory, opened_file}
 use Rattle.shard_core.specs.EntryEvents.{image_with}
 use Rattle.shard_core.specs.Images.{ImageStands}
 use Rattle.shard_core.specs.Kinds.{HasLive, KindsAgree, OneKind}
 use Rattle.shard_core.specs.Files.{content_in, now_of, on_disk}
-use Rattle.shard_core.specs.State.{Core, Image, Stored}
-use Rattle.shard_core.specs.Taken.{Admits, AdmitsAll, DoubtsTaken, EntriesTaken, IsReadable}
+use Rattle.shard_core.specs.State.{Core, Image, StoredFile}
+use Rattle.shard_core.specs.Taken.{Admits, AdmitsAll, DoubtsTaken, EntriesTaken, IsReadableImage}
 use Rattle.shard_core.proofs.ImageLemmas.{each_stands}
 use Rattle.shard_core.proofs.KindLemmas.{Within, live_either, one_kind, within_both, within_itself, write_one}
 use Rattle.shard_core.proofs.ListLemmas.{map_of_map}
@@ -109,13 +109,13 @@ opened_live : (deleted : Bool) (o : Option Value) (value : Value) → cond delet
 opened_live true o value e = absurd (cc)
 opened_live false o value e = (e, refl)
 
-opened_has : (entries : List Entry) (files : List Stored) (cell : Cell) (value : Value) → HasLive (map now_of (map (opened_file entries) files)) cell value → HasLive (map content_in files) cell value × (is_deleted_by entries cell ≡ false)
+opened_has : (entries : List Entry) (files : List StoredFile) (cell : Cell) (value : Value) → HasLive (map now_of (map (opened_file entries) files)) cell value → HasLive (map content_in files) cell value × (is_deleted_by entries cell ≡ false)
 opened_has entries [] cell value has = absurd has
 opened_has entries (file ∷ files) cell value (inl is) =
     let e = opened_live (is_deleted_by entries cell) (file.content cell) value is in (inl e.0, e.1)
 opened_has entries (file ∷ files) cell value (inr has) = let rest = opened_has entries files cell value has in (inr rest.0, rest.1)
 
-pub opened_kinds : (image : Image) (core : Core) → IsReadable image → Opens image core → KindsAgree core
+pub opened_kinds : (image : Image) (core : Core) → IsReadableImage image → OpensDirectory image core → KindsAgree core
 opened_kinds image core sound opens =
     let disk = map content_in image.files in
     let files = map now_of (map (opened_file image.entries) image.files) in
@@ -138,7 +138,7 @@ opened_kinds image core sound opens =
     none_some : (value : Value) → None ≡ Some value → ⊥
     none_some value e = cc
 
-pub opened_taken : (image : Image) (core : Core) → IsReadable image → Opens image core → EntriesTaken core
+pub opened_taken : (image : Image) (core : Core) → IsReadableImage image → OpensDirectory image core → EntriesTaken core
 opened_taken image core sound opens =
     let entries = drop_at [] (image.entries ++ []) (image.floor - image.floor) (omega arith) ∙ append-nil image.entries in
     subst EntriesTaken (sym opens.same)
@@ -150,8 +150,8 @@ opened_taken image core sound opens =
       leads = λ cell. ap (λ (es : List Entry). applied (effects es cell) (overlay (map content_in image.files) cell)) entries ∙ sym (opens.are cell);
     }
 
-pub sound_more : (start : State) (history : List Entry) (image : Image) (entry : Entry) → ImageStands start history image → IsReadable image → Admits (λ cell. value_at (after start.points history) cell) entry
-    → IsReadable (image_with entry image)
+pub sound_more : (start : State) (history : List Entry) (image : Image) (entry : Entry) → ImageStands start history image → IsReadableImage image → Admits (λ cell. value_at (after start.points history) cell) entry
+    → IsReadableImage (image_with entry image)
 sound_more start history image entry stands sound takes = record {
   kinds = sound.kinds;
   takes = takes_more (overlay (map content_in image.files)) image.entries entry sound.takes
@@ -159,11 +159,11 @@ sound_more start history image entry stands sound takes = record {
       (same_below (left image.entries (overlay (map content_in image.files))) (λ cell. value_at (after start.points history) cell) stands.shows) takes);
 }
 
-pub images_sound : (core : Core) → Standing core → KindsAgree core → EntriesTaken core → DoubtsTaken core → (more : List Entry) (image : Image) → MayLeave core more image → IsReadable image
+pub images_sound : (core : Core) → Standing core → KindsAgree core → EntriesTaken core → DoubtsTaken core → (more : List Entry) (image : Image) → MayLeave core more image → IsReadableImage image
 images_sound core inv kinds taken doubts more image may =
     ⊎_elim (λ plain. each image plain.1)
-    (λ doubt. subst IsReadable (sym doubt.3.2) (sound_more core.start core.history doubt.3.0 doubt.0 (each_stands core inv doubt.3.0 doubt.3.1) (each doubt.3.0 doubt.3.1) (doubts.entry doubt.0 doubt.1)))
+    (λ doubt. subst IsReadableImage (sym doubt.3.2) (sound_more core.start core.history doubt.3.0 doubt.0 (each_stands core inv doubt.3.0 doubt.3.1) (each doubt.3.0 doubt.3.1) (doubts.entry doubt.0 doubt.1)))
     may
   where
-    each : (image : Image) → Images core image → IsReadable image
-    each image is = ⊎_elim (λ same. subst IsReadable (sym same) (image_sound core kinds taken)) (λ edit. doubts.edit image edit) is
+    each : (image : Image) → Images core image → IsReadableImage image
+    each image is = ⊎_elim (λ same. subst IsReadableImage (sym same) (image_sound core kinds taken)) (λ edit. doubts.edit image edit) is

@@ -10,16 +10,16 @@ use Rattle.point_model.specs.Cursors.{Key}
 use Rattle.point_model.specs.Points.{no_points, value_at}
 use Rattle.point_model.specs.Contents.{Content, overlay}
 use Rattle.shard_core.specs.Contents.{held}
-use Rattle.shard_core.specs.Crashes.{Crashes}
-use Rattle.shard_core.specs.DiskEvents.{CompactsIndex, DoubtsEdit, Records, SettlesEdit, StoresChanges, StoresIndex, WouldMake, name_some, name_sources}
-use Rattle.shard_core.specs.EntryEvents.{DoubtsEntry, Settles}
+use Rattle.shard_core.specs.Crashes.{CrashesAndOpens}
+use Rattle.shard_core.specs.DiskEvents.{CompactsIndex, DoubtsEdit, RecordsFiles, SettlesEdit, StoresChanges, StoresIndex, WouldMake, name_some, name_sources}
+use Rattle.shard_core.specs.EntryEvents.{DoubtsEntry, EndsEntryDoubt}
 use Rattle.shard_core.specs.Images.{ImageStands}
 use Rattle.shard_core.specs.Invariant.{MergeStands, ViewShows}
 use Rattle.shard_core.specs.MergeEvents.{AbandonsMerge, BeginsMerge}
-use Rattle.shard_core.specs.Numbers.{AreApart, Climbs, count, held_by_merges, held_by_views, names_of}
-use Rattle.shard_core.specs.Parts.{FileIsCut, IfSnapshotIs, Parts}
+use Rattle.shard_core.specs.Numbers.{AreDisjoint, Climbs, count, held_by_merges, held_by_views, names_of}
+use Rattle.shard_core.specs.Parts.{FileIsCut, IfSnapshotIs, StandsInParts}
 use Rattle.shard_core.specs.SnapshotEvents.{AbandonsSnapshot, BeginsSnapshot, Renames, name_all, with_snapshot}
-use Rattle.shard_core.specs.Files.{generation_of, now_of, number_of, source_numbers}
+use Rattle.shard_core.specs.Files.{generation_of, now_of, file_number, source_numbers}
 use Rattle.shard_core.specs.Shown.{image_of, snapshot_contents}
 use Rattle.shard_core.specs.State.{Core, File, Image, Merge, Snapshot, View, last_of}
 use Rattle.shard_core.specs.ViewEvents.{BeginsView, EndsView, Purges, is_gone, view_of}
@@ -31,8 +31,8 @@ use Rattle.shard_core.proofs.SnapshotLaws.{end_snapshot_keeps}
 use Rattle.shard_core.proofs.Standing.{Standing}
 
 -- what the parts don't speak of may change
-pub parts_with : (core : Core) (merges : List Merge) (views : List View) (condemned : List ℕ) (holds : ℕ → ℕ) (doubt : Option Entry) (edit : Option Image) → Parts core
-    → Parts record core { merges = merges; views = views; condemned = condemned; holds = holds; doubt = doubt; edit = edit }
+pub parts_with : (core : Core) (merges : List Merge) (views : List View) (condemned : List ℕ) (holds : ℕ → ℕ) (doubt : Option Entry) (edit : Option Image) → StandsInParts core
+    → StandsInParts record core { merges = merges; views = views; condemned = condemned; holds = holds; doubt = doubt; edit = edit }
 parts_with core merges views condemned holds doubt edit parts = record {
   settled = parts.settled;
   first = parts.first;
@@ -63,7 +63,7 @@ doubts_keeps core doubt inv = record {
 pub doubt_keeps : (old new : Core) → DoubtsEntry old new → Standing old → Standing new
 doubt_keeps old new doubts inv = subst Standing (sym doubts.same) (doubts_keeps old (Some doubts.entry) inv)
 
-pub settle_keeps : (old new : Core) → Settles old new → Standing old → Standing new
+pub settle_keeps : (old new : Core) → EndsEntryDoubt old new → Standing old → Standing new
 settle_keeps old new settles inv = subst Standing (sym settles) (doubts_keeps old None inv)
 
 pub edits_keeps : (core : Core) (edit : Option Image) → IfSome edit (ImageStands core.start core.history) → Standing core → Standing record core { edit = edit }
@@ -193,10 +193,10 @@ begin_merge_keeps old new begins inv =
       holds = λ n. let e = inv.holds n in omega arith;
       present = λ n held.
           let was = inv.present n in
-          let a = ap (λ (fs : List File). count n (map number_of fs)) may.placed ∙ ap (count n) (placed_map number_of may.before merge.sources may.behind) in
-          let b = count-append n (map number_of may.before) (map number_of merge.sources ++ map number_of may.behind) in
-          let c = count-append n (map number_of merge.sources) (map number_of may.behind) in
-          now_held (old.holds n) (count n (source_numbers merge)) (count n (map number_of old.files) + count n old.condemned) was (omega arith) held;
+          let a = ap (λ (fs : List File). count n (map file_number fs)) may.placed ∙ ap (count n) (placed_map file_number may.before merge.sources may.behind) in
+          let b = count-append n (map file_number may.before) (map file_number merge.sources ++ map file_number may.behind) in
+          let c = count-append n (map file_number merge.sources) (map file_number may.behind) in
+          now_held (old.holds n) (count n (source_numbers merge)) (count n (map file_number old.files) + count n old.condemned) was (omega arith) held;
       once = inv.once;
       edit = inv.edit;
       index = inv.index;
@@ -213,14 +213,14 @@ abandon_merge_keeps old new abandons inv =
     let others = abandons.others in
     let stand = subst (λ (merges : List Merge). AllByRecursion (MergeStands old.files) merges) abandons.listed inv.merges in
     let without = apart_without (map source_numbers earlier) (source_numbers merge) (map source_numbers others)
-    (subst AreApart (ap (map source_numbers) abandons.listed ∙ map-append source_numbers earlier (merge ∷ others)) inv.apart) in
+    (subst AreDisjoint (ap (map source_numbers) abandons.listed ∙ map-append source_numbers earlier (merge ∷ others)) inv.apart) in
     subst Standing (sym abandons.same)
     record {
       shows = inv.shows;
       views = inv.views;
       merges = all_append (MergeStands old.files) earlier others (all_left (MergeStands old.files) earlier (merge ∷ others) stand)
           (let right = all_right (MergeStands old.files) earlier (merge ∷ others) stand in right.1);
-      apart = subst AreApart (sym (map-append source_numbers earlier others)) without.apart;
+      apart = subst AreDisjoint (sym (map-append source_numbers earlier others)) without.apart;
       parts = parts_with old (earlier ++ others) old.views (abandons.adopted ++ old.condemned) (λ n. old.holds n - count n (source_numbers merge)) old.doubt old.edit inv.parts;
       generations = inv.generations;
       holds = λ n.
@@ -252,7 +252,7 @@ begin_view_keeps old new begins inv =
       parts = parts_with old old.merges (view ∷ old.views) old.condemned (λ n. old.holds n + count n begins.held) old.doubt old.edit inv.parts;
       generations = inv.generations;
       holds = λ n. let e = inv.holds n in omega arith;
-      present = λ n held. now_held (old.holds n) (count n begins.held) (count n (map number_of old.files)) (count n old.condemned) (inv.present n) (begins.present n) held;
+      present = λ n held. now_held (old.holds n) (count n begins.held) (count n (map file_number old.files)) (count n old.condemned) (inv.present n) (begins.present n) held;
       once = inv.once;
       edit = inv.edit;
       index = inv.index;
@@ -331,8 +331,8 @@ module _ (chosen : File → Bool) (tombs : File → Option ℕ) where
   contents_named : (files : List File) → map now_of (map name files) ≡ map now_of files
   contents_named files = same_map now_of name (λ file. same_either now_of (chosen file) (name_all tombs file) file refl) files
 
-  numbers_named : (files : List File) → map number_of (map name files) ≡ map number_of files
-  numbers_named files = same_map number_of name (λ file. same_either number_of (chosen file) (name_all tombs file) file refl) files
+  numbers_named : (files : List File) → map file_number (map name files) ≡ map file_number files
+  numbers_named files = same_map file_number name (λ file. same_either file_number (chosen file) (name_all tombs file) file refl) files
 
   generations_named : (files : List File) → map generation_of (map name files) ≡ map generation_of files
   generations_named files = same_map generation_of name (λ file. same_either generation_of (chosen file) (name_all tombs file) file refl) files
@@ -359,7 +359,7 @@ module _ (chosen : File → Bool) (tombs : File → Option ℕ) where
             ∙ inv.shows cell;
         views = inv.views;
         merges = all_over_map (MergeStands core.files) (MergeStands (map name core.files)) (name_sources chosen tombs) (merge_named core.files) core.merges inv.merges;
-        apart = subst AreApart (sym numbers) inv.apart;
+        apart = subst AreDisjoint (sym numbers) inv.apart;
         parts =
             let parts = inv.parts in
             record {
@@ -386,7 +386,7 @@ module _ (chosen : File → Bool) (tombs : File → Option ℕ) where
         index = inv.index;
       }
 
-pub record_keeps : (old new : Core) → Records old new → Standing old → Standing new
+pub record_keeps : (old new : Core) → RecordsFiles old new → Standing old → Standing new
 record_keeps old new records inv = subst Standing (sym records.same) (named_keeps records.chosen records.tombs records.replaced old records.renames inv)
 
 -- what an edit would make stands for the same points and number
@@ -441,7 +441,7 @@ store_index_keeps old new stores inv = subst Standing (sym stores) (stored_keeps
 pub compact_index_keeps : (old new : Core) → CompactsIndex old new → Standing old → Standing new
 compact_index_keeps old new compacts inv = subst Standing (sym compacts.same) (stored_keeps old old.index compacts.replaced None tt compacts.unused inv)
 
-pub crash_keeps : (old new : Core) → Crashes old new → Standing old → Standing new
+pub crash_keeps : (old new : Core) → CrashesAndOpens old new → Standing old → Standing new
 crash_keeps old new crashes inv =
     let stands = images_stand old inv crashes.more crashes.image crashes.left in
     opens_keeps crashes.image new stands.directory crashes.opens

@@ -15,11 +15,11 @@ use Rattle.point_model.proofs.StoredLemmas.{no_values}
 use Rattle.point_model.specs.Contents.{Content, overlay}
 use Rattle.point_model.specs.Effects.{applied, effects, is_deleted_by}
 use Rattle.shard_core.specs.Contents.{held}
-use Rattle.shard_core.specs.Invariant.{MergeStands, Shows}
-use Rattle.shard_core.specs.Numbers.{AreApart, Climbs, count, held_by_views}
+use Rattle.shard_core.specs.Invariant.{MergeStands, ShowsHistory}
+use Rattle.shard_core.specs.Numbers.{AreDisjoint, Climbs, count, held_by_views}
 use Rattle.shard_core.specs.Parts.{FileIsCut, IsCutBy, IfSnapshotIs, SnapshotIs}
 use Rattle.shard_core.specs.SnapshotEvents.{EndsSnapshot, IsFileOf, Renames, name_all, name_merge, without_snapshot}
-use Rattle.shard_core.specs.Files.{generation_of, now_of, number_of, source_numbers}
+use Rattle.shard_core.specs.Files.{generation_of, now_of, file_number, source_numbers}
 use Rattle.shard_core.specs.Shown.{snapshot_contents}
 use Rattle.shard_core.specs.State.{Core, File, Merge, Snapshot}
 use Rattle.shard_core.proofs.ListLemmas.{all_append, all_over_map, climbs_then, count-append, held_same, placed_map, same_map, some_map}
@@ -67,7 +67,7 @@ module _ (snapshot : Snapshot) (tombs : File → Option ℕ) (replaced : List �
     named_contents : (files : List File) → map now_of (map (name_all tombs) files) ≡ map now_of files
     named_contents files = same_map now_of (name_all tombs) (λ file. refl) files
 
-    end_shows : Shows (without_snapshot snapshot made tombs replaced core)
+    end_shows : ShowsHistory (without_snapshot snapshot made tombs replaced core)
     end_shows cell =
         let f : Option Value = overlay (map now_of core.files) cell in
         let c : Option Value = value_at core.cache cell in
@@ -81,7 +81,7 @@ module _ (snapshot : Snapshot) (tombs : File → Option ℕ) (replaced : List �
         ∙ inv.shows cell
 
     named_numbers : (merge : Merge) → source_numbers (name_merge tombs merge) ≡ source_numbers merge
-    named_numbers merge = same_map number_of (name_all tombs) (λ file. refl) merge.sources
+    named_numbers merge = same_map file_number (name_all tombs) (λ file. refl) merge.sources
 
     merge_named : (merge : Merge) → MergeStands core.files merge → MergeStands (map (name_all tombs) core.files ++ made) (name_merge tombs merge)
     merge_named merge stands = record {
@@ -103,7 +103,7 @@ module _ (snapshot : Snapshot) (tombs : File → Option ℕ) (replaced : List �
       shows = end_shows;
       views = inv.views;
       merges = all_over_map (MergeStands core.files) (MergeStands (map (name_all tombs) core.files ++ made)) (name_merge tombs) merge_named core.merges inv.merges;
-      apart = subst AreApart (sym (same_map source_numbers (name_merge tombs) named_numbers core.merges)) inv.apart;
+      apart = subst AreDisjoint (sym (same_map source_numbers (name_merge tombs) named_numbers core.merges)) inv.apart;
       parts = record {
         settled = settled ++ first;
         first = [];
@@ -124,8 +124,8 @@ module _ (snapshot : Snapshot) (tombs : File → Option ℕ) (replaced : List �
       holds = λ n. inv.holds n ∙ ap (λ (h : ℕ). held_by_views n core.views + h) (sym (held_same n (name_merge tombs) named_numbers core.merges));
       present = λ n held.
           let was = inv.present n held in
-          let numbers = ap (count n) (map-append number_of (map (name_all tombs) core.files) made ∙ ap (λ (ns : List ℕ). ns ++ map number_of made) (same_map number_of (name_all tombs) (λ file. refl) core.files)) in
-          let a = count-append n (map number_of core.files) (map number_of made) in
+          let numbers = ap (count n) (map-append file_number (map (name_all tombs) core.files) made ∙ ap (λ (ns : List ℕ). ns ++ map file_number made) (same_map file_number (name_all tombs) (λ file. refl) core.files)) in
+          let a = count-append n (map file_number core.files) (map file_number made) in
           let b = count-append n replaced core.condemned in
           omega arith;
       once = λ n. let a = renames.unused n in let b = renames.moved n in let c = count-append n replaced core.condemned in omega arith;

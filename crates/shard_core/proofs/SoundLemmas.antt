@@ -15,16 +15,16 @@ use Rattle.point_model.proofs.FieldLemmas.{same_field}
 use Rattle.point_model.specs.Contents.{Content, acted, overlay}
 use Rattle.point_model.specs.Effects.{Effect, applied, effect, effects, is_deleted_by}
 use Rattle.shard_core.specs.Contents.{held, left}
-use Rattle.shard_core.specs.DiskEvents.{Records, name_some}
+use Rattle.shard_core.specs.DiskEvents.{RecordsFiles, name_some}
 use Rattle.shard_core.specs.EntryEvents.{Deletes, Writes}
 use Rattle.shard_core.specs.Kinds.{HasLive, KindsAgree, OneKind}
 use Rattle.shard_core.specs.MergeEvents.{EndsMerge}
-use Rattle.shard_core.specs.Parts.{FileIsCut, IfSnapshotIs, Parts, SnapshotIs}
+use Rattle.shard_core.specs.Parts.{FileIsCut, IfSnapshotIs, StandsInParts, SnapshotIs}
 use Rattle.shard_core.specs.SnapshotEvents.{EndsSnapshot, IsFileOf, name_all, without_snapshot}
 use Rattle.shard_core.specs.Files.{content_in, now_of, on_disk, stored_of}
 use Rattle.shard_core.specs.Shown.{image_of, snapshot_contents}
-use Rattle.shard_core.specs.State.{Core, File, Snapshot, points_of}
-use Rattle.shard_core.specs.Taken.{Accepts, Admits, AdmitsAll, Below, EntriesTaken, IsReadable}
+use Rattle.shard_core.specs.State.{Core, File, Snapshot, points_now}
+use Rattle.shard_core.specs.Taken.{AcceptsFields, Admits, AdmitsAll, Below, EntriesTaken, IsReadableImage}
 use Rattle.shard_core.proofs.ImageLemmas.{deleted-append, ends_deleted, entries_are}
 use Rattle.shard_core.proofs.KindLemmas.{Within, disk_all, disk_cut, live_either, live_left, live_right, live_shows, made_within, merge_disk_within, overlay_live, within_disk, within_named}
 use Rattle.shard_core.proofs.ListLemmas.{map_of_map}
@@ -96,7 +96,7 @@ takes_with core inv taken entry takes =
     (takes_more taken.base (image_of core).entries entry taken.takes
     (takes_entry_below (left (image_of core).entries taken.base) (λ cell. value_at (after core.start.points core.history) cell) entry (same_below (left (image_of core).entries taken.base) (λ cell. value_at (after core.start.points core.history) cell) taken.leads) takes))
 
-pub write_taken : (old new : Core) → (writes : Writes old new) → Accepts (held (points_of old)) writes.points → Standing old → EntriesTaken old → EntriesTaken new
+pub write_taken : (old new : Core) → (writes : Writes old new) → AcceptsFields (held (points_now old)) writes.points → Standing old → EntriesTaken old → EntriesTaken new
 write_taken old new writes accepts inv taken =
     subst EntriesTaken (sym writes.same)
     record {
@@ -137,7 +137,7 @@ end_merge_taken old new ends inv kinds taken =
       leads = taken.leads;
     }
 
-pub record_taken : (old new : Core) → Records old new → Standing old → KindsAgree old → EntriesTaken old → EntriesTaken new
+pub record_taken : (old new : Core) → RecordsFiles old new → Standing old → KindsAgree old → EntriesTaken old → EntriesTaken new
 record_taken old new records inv kinds taken =
     let parts = inv.parts in
     subst EntriesTaken (sym records.same)
@@ -175,7 +175,7 @@ live_kept entries (file ∷ files) follow cell value (inl is) =
 live_kept entries (file ∷ files) follow cell value (inr has) = live_kept entries files follow.1 cell value has
 
 module _ (old : Core) (inv : Standing old) (kinds : KindsAgree old) (taken : EntriesTaken old) (snapshot : Snapshot) (out : old.snapshot ≡ Some snapshot) where
-  abbrev parts : Parts old
+  abbrev parts : StandsInParts old
   parts = inv.parts
 
   abbrev is_snapshot : SnapshotIs old.floor parts.first parts.second snapshot
@@ -254,7 +254,7 @@ pub end_snapshot_taken : (old new : Core) → EndsSnapshot old new → Standing 
 end_snapshot_taken old new ends inv kinds taken =
     subst EntriesTaken (sym ends.same) (snapshot_taken old inv kinds taken ends.snapshot ends.stands ends.made ends.is_made ends.tombs ends.replaced)
 
-pub image_sound : (core : Core) → KindsAgree core → EntriesTaken core → IsReadable (image_of core)
+pub image_sound : (core : Core) → KindsAgree core → EntriesTaken core → IsReadableImage (image_of core)
 image_sound core kinds taken =
     let same = map_of_map stored_of content_in on_disk (λ file. refl) core.files in
     record {

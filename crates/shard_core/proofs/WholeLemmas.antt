@@ -7,12 +7,12 @@ use Rattle.point_model.specs.Histories.{State, after}
 use Rattle.std.specs.Prelude.{filter, not, Bool, true, false}
 use Rattle.point_model.specs.Cursors.{Key}
 use Rattle.shard_core.specs.Contents.{held}
-use Rattle.shard_core.specs.Crashes.{Crashes, MayLeave, Opens}
-use Rattle.shard_core.specs.DiskEvents.{CompactsIndex, DoubtsEdit, Records, SettlesEdit, WouldMake}
-use Rattle.shard_core.specs.EntryEvents.{Deletes, DoubtsEntry, Settles, Writes, image_with}
+use Rattle.shard_core.specs.Crashes.{CrashesAndOpens, MayLeave, OpensDirectory}
+use Rattle.shard_core.specs.DiskEvents.{CompactsIndex, DoubtsEdit, RecordsFiles, SettlesEdit, WouldMake}
+use Rattle.shard_core.specs.EntryEvents.{Deletes, DoubtsEntry, EndsEntryDoubt, Writes, image_with}
 use Rattle.shard_core.specs.Events as event
 use Rattle.shard_core.specs.Events.{Event}
-use Rattle.shard_core.specs.Images.{GoesOn, ImageStands, IsDirectory}
+use Rattle.shard_core.specs.Images.{IsAfter, ImageStands, IsDirectory}
 use Rattle.shard_core.specs.Invariant.{Invariant}
 use Rattle.shard_core.specs.Kinds.{KindsAgree, OneKind}
 use Rattle.shard_core.specs.Laws.{EventsKeep, EveryListKeeps}
@@ -21,8 +21,8 @@ use Rattle.shard_core.specs.Numbers.{count}
 use Rattle.shard_core.specs.SnapshotEvents.{AbandonsSnapshot, BeginsSnapshot, EndsSnapshot}
 use Rattle.shard_core.specs.Files.{now_of, source_numbers}
 use Rattle.shard_core.specs.Shown.{image_of, snapshot_contents}
-use Rattle.shard_core.specs.State.{Core, Image, Merge, Snapshot, View, points_of}
-use Rattle.shard_core.specs.Taken.{Admits, DoubtsTaken, EntriesTaken, IsReadable}
+use Rattle.shard_core.specs.State.{Core, Image, Merge, Snapshot, View, points_now}
+use Rattle.shard_core.specs.Taken.{Admits, DoubtsTaken, EntriesTaken, IsReadableImage}
 use Rattle.shard_core.specs.ViewEvents.{is_gone, view_of}
 use Rattle.shard_core.proofs.AcceptanceLemmas.{admitted}
 use Rattle.shard_core.proofs.EntryLaws.{deletes_keeps, writes_keeps}
@@ -41,10 +41,10 @@ pub record Rest (core : Core) : Type 0 where
   pub taken : EntriesTaken core
   pub doubts : DoubtsTaken core
 
-no_image : (image : Image) → None ≡ Some image → IsReadable image
+no_image : (image : Image) → None ≡ Some image → IsReadableImage image
 no_image image e = absurd (cc)
 
-no_entry : (core : Core) (entry : Entry) → None ≡ Some entry → Admits (held (points_of core)) entry
+no_entry : (core : Core) (entry : Entry) → None ≡ Some entry → Admits (held (points_now core)) entry
 no_entry core entry e = absurd (cc)
 
 same_image : (made image : Image) → Some made ≡ Some image → made ≡ image
@@ -54,12 +54,12 @@ same_entry : (made entry : Entry) → Some made ≡ Some entry → made ≡ entr
 same_entry made entry e = cc
 
 -- an edit's image with an entry more
-edit_more : (core : Core) (entry : Entry) → Admits (held (points_of core)) entry → (edit : Option Image) → ((image : Image) → edit ≡ Some image → ImageStands core.start core.history image × IsReadable image)
-    → (image : Image) → option_map (image_with entry) edit ≡ Some image → IsReadable image
+edit_more : (core : Core) (entry : Entry) → Admits (held (points_now core)) entry → (edit : Option Image) → ((image : Image) → edit ≡ Some image → ImageStands core.start core.history image × IsReadableImage image)
+    → (image : Image) → option_map (image_with entry) edit ≡ Some image → IsReadableImage image
 edit_more core entry takes None each image e = absurd (cc)
 edit_more core entry takes (Some before) each image e =
     let own = each before refl in
-    subst IsReadable (same_image (image_with entry before) image e) (sound_more core.start core.history before entry own.0 own.1 takes)
+    subst IsReadableImage (same_image (image_with entry before) image e) (sound_more core.start core.history before entry own.0 own.1 takes)
 
 -- kinds and logs speak of points, files and doubts alone
 rest_with : (core : Core) (merges : List Merge) (views : List View) (condemned : List ℕ) (holds : ℕ → ℕ) (stored : Key → Bool) → Rest core
@@ -74,8 +74,8 @@ rest_with core merges views condemned holds stored rest =
       doubts = record { edit = doubts.edit; entry = doubts.entry };
     }
 
-rest_doubts : (core : Core) (doubt : Option Entry) (edit : Option Image) → ((image : Image) → edit ≡ Some image → IsReadable image)
-    → ((entry : Entry) → doubt ≡ Some entry → Admits (held (points_of core)) entry) → Rest core → Rest record core { doubt = doubt; edit = edit }
+rest_doubts : (core : Core) (doubt : Option Entry) (edit : Option Image) → ((image : Image) → edit ≡ Some image → IsReadableImage image)
+    → ((entry : Entry) → doubt ≡ Some entry → Admits (held (points_now core)) entry) → Rest core → Rest record core { doubt = doubt; edit = edit }
 rest_doubts core doubt edit image entry rest =
     let kinds = rest.kinds in
     let taken = rest.taken in
@@ -97,14 +97,14 @@ rest_job core snapshot out stands rest =
       doubts = record { edit = doubts.edit; entry = doubts.entry };
     }
 
-edit_stands : (core : Core) → Standing core → Rest core → (image : Image) → core.edit ≡ Some image → ImageStands core.start core.history image × IsReadable image
+edit_stands : (core : Core) → Standing core → Rest core → (image : Image) → core.edit ≡ Some image → ImageStands core.start core.history image × IsReadableImage image
 edit_stands core inv rest image e =
     let doubts = rest.doubts in
     (subst (λ (o : Option Image). IfSome o (ImageStands core.start core.history)) e inv.edit, doubts.edit image e)
 
 write_rest : (old new : Core) → Writes old new → Standing old → Rest old → Rest new
 write_rest old new writes inv rest =
-    let taken = admitted (points_of old) (Write writes.client writes.points) writes.may in
+    let taken = admitted (points_now old) (Write writes.client writes.points) writes.may in
     record {
       kinds = write_kinds old new writes taken inv rest.kinds;
       taken = write_taken old new writes taken inv rest.taken;
@@ -136,11 +136,11 @@ ended_doubts old new made same edit doubt start history doubts =
           (subst (λ (h : List Entry). Admits (held (after old.start.points h)) entry) (sym history) (doubts.entry entry (sym doubt ∙ s)));
     }
 
-would_sound : (old would : Core) → WouldMake old would → Standing old → Rest old → IsReadable (image_of would)
+would_sound : (old would : Core) → WouldMake old would → Standing old → Rest old → IsReadableImage (image_of would)
 would_sound old would (inl ends) inv rest = image_sound would (end_snapshot_kinds old would ends inv rest.kinds) (end_snapshot_taken old would ends inv rest.kinds rest.taken)
 would_sound old would (inr (inl ends)) inv rest = image_sound would (end_merge_kinds old would ends inv rest.kinds) (end_merge_taken old would ends inv rest.kinds rest.taken)
 would_sound old would (inr (inr (inl records))) inv rest = image_sound would (record_kinds old would records inv rest.kinds) (record_taken old would records inv rest.kinds rest.taken)
-would_sound old would (inr (inr (inr same))) inv rest = subst (λ (c : Core). IsReadable (image_of c)) (sym same) (image_sound old rest.kinds rest.taken)
+would_sound old would (inr (inr (inr same))) inv rest = subst (λ (c : Core). IsReadableImage (image_of c)) (sym same) (image_sound old rest.kinds rest.taken)
 
 begin_snapshot_rest : (old new : Core) → BeginsSnapshot old new → Standing old → Rest old → Rest new
 begin_snapshot_rest old new e inv rest =
@@ -176,7 +176,7 @@ end_merge_rest old new e inv rest = record {
   doubts = ended_doubts old new _ e.same refl refl refl refl rest.doubts;
 }
 
-record_rest : (old new : Core) → Records old new → Standing old → Rest old → Rest new
+record_rest : (old new : Core) → RecordsFiles old new → Standing old → Rest old → Rest new
 record_rest old new e inv rest = record {
   kinds = record_kinds old new e inv rest.kinds;
   taken = record_taken old new e inv rest.kinds rest.taken;
@@ -187,16 +187,16 @@ doubt_edit_rest : (old new : Core) → DoubtsEdit old new → Standing old → R
 doubt_edit_rest old new e inv rest =
     let doubts = rest.doubts in
     subst Rest (sym e.same)
-    (rest_doubts old old.doubt (Some (image_of e.would)) (λ image s. subst IsReadable (same_image (image_of e.would) image s) (would_sound old e.would e.made inv rest)) doubts.entry rest)
+    (rest_doubts old old.doubt (Some (image_of e.would)) (λ image s. subst IsReadableImage (same_image (image_of e.would) image s) (would_sound old e.would e.made inv rest)) doubts.entry rest)
 
 doubt_rest : (old new : Core) → DoubtsEntry old new → Rest old → Rest new
 doubt_rest old new e rest =
     let doubts = rest.doubts in
     subst Rest (sym e.same)
     (rest_doubts old (Some e.entry) old.edit doubts.edit
-    (λ entry s. subst (λ (x : Entry). Admits (held (points_of old)) x) (same_entry e.entry entry s) (admitted (points_of old) e.entry e.may)) rest)
+    (λ entry s. subst (λ (x : Entry). Admits (held (points_now old)) x) (same_entry e.entry entry s) (admitted (points_now old) e.entry e.may)) rest)
 
-settle_rest : (old new : Core) → Settles old new → Rest old → Rest new
+settle_rest : (old new : Core) → EndsEntryDoubt old new → Rest old → Rest new
 settle_rest old new e rest =
     let doubts = rest.doubts in
     subst Rest (sym e) (rest_doubts old None old.edit doubts.edit (λ entry s. no_entry old entry s) rest)
@@ -213,7 +213,7 @@ compact_index_rest old new e rest =
     (rest_doubts (record old { stored = old.index; condemned = e.replaced ++ old.condemned }) old.doubt None (λ image s. no_image image s) doubts.entry
     (rest_with old old.merges old.views (e.replaced ++ old.condemned) old.holds old.index rest))
 
-opened_rest : (image : Image) (core : Core) → IsReadable image → Opens image core → Rest core
+opened_rest : (image : Image) (core : Core) → IsReadableImage image → OpensDirectory image core → Rest core
 opened_rest image core readable opens = record {
   kinds = opened_kinds image core readable opens;
   taken = opened_taken image core readable opens;
@@ -267,23 +267,23 @@ both_keep old new stands rests e inv = whole new (stands e (standing old inv)) (
 pub images_stand_now : (core : Core) → Invariant core → (more : List Entry) (image : Image) → MayLeave core more image → ImageStands core.start (core.history ++ more) image
 images_stand_now core inv = images_stand core (standing core inv)
 
-pub images_readable : (core : Core) → Invariant core → (more : List Entry) (image : Image) → MayLeave core more image → IsReadable image
+pub images_readable : (core : Core) → Invariant core → (more : List Entry) (image : Image) → MayLeave core more image → IsReadableImage image
 images_readable core inv = images_sound core (standing core inv) inv.kinds inv.taken inv.doubts
 
-pub opens_meets : (image : Image) (core : Core) → IsDirectory image → IsReadable image → Opens image core → Invariant core
+pub opens_meets : (image : Image) (core : Core) → IsDirectory image → IsReadableImage image → OpensDirectory image core → Invariant core
 opens_meets image core directory readable opens = whole core (opens_keeps image core directory opens) (opened_rest image core readable opens)
 
-crash_meets : (old new : Core) → Crashes old new → Invariant old → Invariant new
+crash_meets : (old new : Core) → CrashesAndOpens old new → Invariant old → Invariant new
 crash_meets old new crashes inv =
     let stands = images_stand_now old inv crashes.more crashes.image crashes.left in
     opens_meets crashes.image new stands.directory (images_readable old inv crashes.more crashes.image crashes.left) crashes.opens
 
 -- what is opened begins where the history, or the history with the entry in doubt, ended
-pub crash_goes_on : (old new : Core) (crashes : Crashes old new) → Invariant old → GoesOn old.start (old.history ++ crashes.more) new.start
+pub crash_goes_on : (old new : Core) (crashes : CrashesAndOpens old new) → Invariant old → IsAfter old.start (old.history ++ crashes.more) new.start
 crash_goes_on old new crashes inv =
     let stands = images_stand_now old inv crashes.more crashes.image crashes.left in
     let opens = crashes.opens in
-    subst (λ (core : Core). GoesOn old.start (old.history ++ crashes.more) core.start) (sym opens.same)
+    subst (λ (core : Core). IsAfter old.start (old.history ++ crashes.more) core.start) (sym opens.same)
     (record { points = λ cell. opens.are cell ∙ stands.shows cell; number = stands.counted })
 
 pub events_keep : EventsKeep

@@ -10,7 +10,7 @@ use Rattle.shard_core.specs.EntryEvents.{image_with}
 use Rattle.shard_core.specs.Images.{image_value}
 use Rattle.shard_core.specs.Invariant.{IsIndex}
 use Rattle.shard_core.specs.Shown.{image_of}
-use Rattle.shard_core.specs.State.{Core, File, Image, Stored}
+use Rattle.shard_core.specs.State.{Core, File, Image, StoredFile}
 
 -- the directory where nothing was in doubt, or the one that an edit in doubt would leave
 abbrev pub Images : Core → Image → Type 0
@@ -24,7 +24,7 @@ MayLeave core more image =
     × ((before : Image) × Images core before × (image ≡ image_with entry before)))
 
 -- a file of the directory under the deletions of its log
-abbrev pub opened_file : List Entry → Stored → File
+abbrev pub opened_file : List Entry → StoredFile → File
 opened_file entries stored = record { stored = stored; now = λ cell. if is_deleted_by entries cell then None else stored.content cell }
 
 -- the directory with its log read again: the cache is what the entries past the floor leave on no points
@@ -49,7 +49,7 @@ opened image points index stored = record {
 }
 
 -- The state begins with the points that the directory stands for, and with their keys as the index, whatever index was stored.
-pub record Opens (image : Image) (new : Core) : Type 0 where
+pub record OpensDirectory (image : Image) (new : Core) : Type 0 where
   pub points : Points
   pub are : (cell : Cell) → value_at points cell ≡ image_value image cell
   pub index : Key → Bool
@@ -58,8 +58,8 @@ pub record Opens (image : Image) (new : Core) : Type 0 where
   pub same : new ≡ opened image points index stored
 
 -- a crash, and the opening of a directory that it may leave
-pub record Crashes (old new : Core) : Type 0 where
+pub record CrashesAndOpens (old new : Core) : Type 0 where
   pub more : List Entry
   pub image : Image
   pub left : MayLeave old more image
-  pub opens : Opens image new
+  pub opens : OpensDirectory image new

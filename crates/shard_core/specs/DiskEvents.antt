@@ -2,7 +2,7 @@
 use Rattle.std.specs.Prelude.{◌≡◌, ◌⊎◌, ℕ, ◌+◌, ◌≤◌, Bool, if◌then◌else◌, List, ◌++◌, map, Option, Some, None}
 use Rattle.point_model.specs.Cursors.{Key}
 use Rattle.shard_core.specs.MergeEvents.{EndsMerge}
-use Rattle.shard_core.specs.Numbers.{count, named}
+use Rattle.shard_core.specs.Numbers.{count, times_named}
 use Rattle.shard_core.specs.SnapshotEvents.{EndsSnapshot, Renames, name_all}
 use Rattle.shard_core.specs.Shown.{image_of}
 use Rattle.shard_core.specs.State.{Core, File, Merge}
@@ -17,7 +17,7 @@ name_sources chosen tombs merge = record merge { sources = map (name_some chosen
 
 -- A record that changes no point: some files' tombstones are on the disk, and the tombstone files that they replace condemned; or
 -- a segment was added or forgotten. Behind it no edit is in doubt.
-pub record Records (old new : Core) : Type 0 where
+pub record RecordsFiles (old new : Core) : Type 0 where
   pub chosen : File → Bool
   pub tombs : File → Option ℕ
   pub replaced : List ℕ
@@ -32,7 +32,7 @@ pub record Records (old new : Core) : Type 0 where
 -- What an edit would make: of the end of a snapshot or of a merge, or a record; one that names a segment or an index file leaves
 -- files, floor and entries.
 abbrev pub WouldMake : Core → Core → Type 0
-WouldMake old would = EndsSnapshot old would ⊎ (EndsMerge old would ⊎ (Records old would ⊎ (would ≡ old)))
+WouldMake old would = EndsSnapshot old would ⊎ (EndsMerge old would ⊎ (RecordsFiles old would ⊎ (would ≡ old)))
 
 -- such an edit may have been made, or not
 pub record DoubtsEdit (old new : Core) : Type 0 where
@@ -57,5 +57,5 @@ StoresIndex old new = new ≡ record old { stored = old.index }
 -- The stored index is the index, in an index file that replaces the one before and its log; both are condemned.
 pub record CompactsIndex (old new : Core) : Type 0 where
   pub replaced : List ℕ
-  pub unused : (n : ℕ) → count n replaced + named old n ≤ 1
+  pub unused : (n : ℕ) → count n replaced + times_named old n ≤ 1
   pub same : new ≡ record old { stored = old.index; condemned = replaced ++ old.condemned; edit = None }

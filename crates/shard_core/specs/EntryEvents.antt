@@ -10,7 +10,7 @@ use Rattle.point_model.specs.Histories.{with_points}
 use Rattle.point_model.specs.Cursors.{HasKey, Key}
 use Rattle.point_model.specs.Contents.{overlay, spared}
 use Rattle.shard_core.specs.Shown.{contents_of}
-use Rattle.shard_core.specs.State.{Core, File, Image, Merge, Snapshot, points_of}
+use Rattle.shard_core.specs.State.{Core, File, Image, Merge, Snapshot, points_now}
 
 -- the directory with an entry more in its log
 abbrev pub image_with : Entry → Image → Image
@@ -39,7 +39,7 @@ HasOfKey key (point ∷ points) = (key_of_point point ≡ key) ⊎ HasOfKey key 
 pub record Writes (old new : Core) : Type 0 where
   pub client : ℕ
   pub points : List Point
-  pub may : Takes (points_of old) (Write client points)
+  pub may : Takes (points_now old) (Write client points)
   pub index : Key → Bool
   pub added : (key : Key) → (index key ≡ true) ↔ ((old.index key ≡ true) ⊎ HasOfKey key points)
   pub same : new ≡ with_write client points index old
@@ -82,9 +82,9 @@ pub record Deletes (old new : Core) : Type 0 where
 -- an entry that the points take may be in the log, or not
 pub record DoubtsEntry (old new : Core) : Type 0 where
   pub entry : Entry
-  pub may : Takes (points_of old) entry
+  pub may : Takes (points_now old) entry
   pub same : new ≡ record old { doubt = Some entry }
 
 -- no entry is in doubt
-abbrev pub Settles : Core → Core → Type 0
-Settles old new = new ≡ record old { doubt = None }
+abbrev pub EndsEntryDoubt : Core → Core → Type 0
+EndsEntryDoubt old new = new ≡ record old { doubt = None }

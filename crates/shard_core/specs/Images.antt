@@ -21,7 +21,7 @@ pub record IsDirectory (image : Image) : Type 0 where
   pub once : (n : ℕ) → count n (stored_names image.files) ≤ 1
 
 -- the state has the points after the history from this start, and the number of its last entry
-pub record GoesOn (start : State) (history : List Entry) (state : State) : Type 0 where
+pub record IsAfter (start : State) (history : List Entry) (state : State) : Type 0 where
   pub points : (cell : Cell) → value_at state.points cell ≡ value_at (after start.points history) cell
   pub number : state.number ≡ start.number + length history
 

@@ -10,16 +10,16 @@ use Rattle.point_model.specs.Contents.{overlay}
 use Rattle.shard_core.specs.Contents.{held}
 use Rattle.shard_core.specs.Images.{ImageStands}
 use Rattle.shard_core.specs.Kinds.{KindsAgree}
-use Rattle.shard_core.specs.Numbers.{AreApart, Climbs, count, held_by_merges, held_by_views, named}
-use Rattle.shard_core.specs.Parts.{Parts}
-use Rattle.shard_core.specs.Files.{generation_of, now_of, number_of, source_numbers}
+use Rattle.shard_core.specs.Numbers.{AreDisjoint, Climbs, count, held_by_merges, held_by_views, times_named}
+use Rattle.shard_core.specs.Parts.{StandsInParts}
+use Rattle.shard_core.specs.Files.{generation_of, now_of, file_number, source_numbers}
 use Rattle.shard_core.specs.Shown.{contents_of}
-use Rattle.shard_core.specs.State.{Core, File, Merge, View, points_of}
+use Rattle.shard_core.specs.State.{Core, File, Merge, View, points_now}
 use Rattle.shard_core.specs.Taken.{DoubtsTaken, EntriesTaken}
 
 -- the overlay of files, snapshot and cache is the points after the history
-abbrev pub Shows : Core → Type 0
-Shows core = (cell : Cell) → overlay (contents_of core) cell ≡ value_at (points_of core) cell
+abbrev pub ShowsHistory : Core → Type 0
+ShowsHistory core = (cell : Cell) → overlay (contents_of core) cell ≡ value_at (points_now core) cell
 
 -- the view shows the points after those entries of the history that its number counts
 pub record ViewShows (start : State) (history : List Entry) (view : View) : Type 0 where
@@ -49,11 +49,11 @@ HoldsCounted core = (n : ℕ) → core.holds n ≡ held_by_views n core.views + 
 
 -- a file that is held is there, as a file or condemned
 abbrev pub HeldPresent : Core → Type 0
-HeldPresent core = (n : ℕ) → 0 < core.holds n → 0 < count n (map number_of core.files) + count n core.condemned
+HeldPresent core = (n : ℕ) → 0 < core.holds n → 0 < count n (map file_number core.files) + count n core.condemned
 
 -- files and the condemned list name no number twice together
 abbrev pub NamedOnce : Core → Type 0
-NamedOnce core = (n : ℕ) → named core n ≤ 1
+NamedOnce core = (n : ℕ) → times_named core n ≤ 1
 
 -- the directory that an edit in doubt would leave stands for the points after the history
 abbrev pub EditStands : Core → Type 0
@@ -66,17 +66,17 @@ IsIndex points index = (key : Key) → (index key ≡ true) ↔ HasKey (held poi
 -- Memory shows the points after the history; views, merges and the directory stand for what they should; files are named once,
 -- held as counted and there while they are held; and whatever a crash leaves can be read again.
 pub record Invariant (core : Core) : Type 0 where
-  pub shows : Shows core
+  pub shows : ShowsHistory core
   pub views : AllByRecursion (ViewShows core.start core.history) core.views
   pub merges : AllByRecursion (MergeStands core.files) core.merges
-  pub apart : AreApart (map source_numbers core.merges)
-  pub parts : Parts core
+  pub apart : AreDisjoint (map source_numbers core.merges)
+  pub parts : StandsInParts core
   pub generations : GenerationsClimb core
   pub holds : HoldsCounted core
   pub present : HeldPresent core
   pub once : NamedOnce core
   pub edit : EditStands core
-  pub index : IsIndex (points_of core) core.index
+  pub index : IsIndex (points_now core) core.index
   pub kinds : KindsAgree core
   pub taken : EntriesTaken core
   pub doubts : DoubtsTaken core

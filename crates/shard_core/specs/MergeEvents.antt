@@ -4,8 +4,8 @@ use Rattle.std.specs.List.{AllByRecursion, flat_map}
 use Rattle.tsdb_types.specs.declared.point.Cell.{Cell}
 use Rattle.point_model.specs.Points.{no_points, value_at}
 use Rattle.point_model.specs.Contents.{overlay}
-use Rattle.shard_core.specs.Numbers.{ShareNone, count, named, names_of}
-use Rattle.shard_core.specs.Files.{now_of, source_numbers, tomb_of}
+use Rattle.shard_core.specs.Numbers.{ShareNone, count, times_named, names_of}
+use Rattle.shard_core.specs.Files.{now_of, source_numbers, tombs_of_file}
 use Rattle.shard_core.specs.State.{Core, File, Merge}
 
 -- Files that stand one behind the other, of which none is a source of another merge; the output is what they show.
@@ -58,11 +58,11 @@ pub record EndsMerge (old new : Core) : Type 0 where
   pub placed : old.files ≡ before ++ (merge.sources ++ behind)
   pub made : List File
   pub is_made : IsFileOfMerge merge made
-  pub unused : (n : ℕ) → count n (names_of made) + named old n ≤ 1
+  pub unused : (n : ℕ) → count n (names_of made) + times_named old n ≤ 1
   pub same : new ≡ record old {
     files = before ++ (made ++ behind);
     merges = earlier ++ others;
-    condemned = (source_numbers merge ++ flat_map tomb_of merge.sources) ++ old.condemned;
+    condemned = (source_numbers merge ++ flat_map tombs_of_file merge.sources) ++ old.condemned;
     holds = λ n. old.holds n - count n (source_numbers merge);
     edit = None;
   }
@@ -74,7 +74,7 @@ pub record AbandonsMerge (old new : Core) : Type 0 where
   pub others : List Merge
   pub listed : old.merges ≡ earlier ++ merge ∷ others
   pub adopted : List ℕ
-  pub unused : (n : ℕ) → count n adopted + named old n ≤ 1
+  pub unused : (n : ℕ) → count n adopted + times_named old n ≤ 1
   pub same : new ≡ record old {
     merges = earlier ++ others;
     condemned = adopted ++ old.condemned;

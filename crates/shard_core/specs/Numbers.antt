@@ -3,7 +3,7 @@ use Rattle.std.specs.Prelude.{◌≢◌, ℕ, suc, ◌+◌, ◌≤◌, ◌==◌,
 use Rattle.std.specs.Option.{option_to_list}
 use Rattle.std.specs.List.{AllByRecursion}
 use Rattle.shard_core.specs.Files.{source_numbers, stored_of}
-use Rattle.shard_core.specs.State.{Core, File, Merge, Stored, View}
+use Rattle.shard_core.specs.State.{Core, File, Merge, StoredFile, View}
 
 -- how often the number is listed
 abbrev pub count : ℕ → List ℕ → ℕ
@@ -16,7 +16,7 @@ Climbs low [] high = low ≤ high
 Climbs low (n ∷ ns) high = (low ≤ n) × Climbs (suc n) ns high
 
 -- the numbers that files of a directory name: their own, and those of their tombstone files
-abbrev pub stored_names : List Stored → List ℕ
+abbrev pub stored_names : List StoredFile → List ℕ
 stored_names [] = []
 stored_names (file ∷ files) = file.no ∷ (option_to_list file.tomb ++ stored_names files)
 
@@ -25,8 +25,8 @@ abbrev pub names_of : List File → List ℕ
 names_of files = stored_names (map stored_of files)
 
 -- how often a file or the condemned list names the number
-abbrev pub named : Core → ℕ → ℕ
-named core n = count n (names_of core.files) + count n core.condemned
+abbrev pub times_named : Core → ℕ → ℕ
+times_named core n = count n (names_of core.files) + count n core.condemned
 
 -- how often views hold the file
 abbrev pub held_by_views : ℕ → List View → ℕ
@@ -43,6 +43,6 @@ abbrev pub ShareNone : List ℕ → List ℕ → Type 0
 ShareNone some others = AllByRecursion (λ n. AllByRecursion (λ other. n ≢ other) others) some
 
 -- no two of the lists have a number in common
-abbrev pub AreApart : List (List ℕ) → Type 0
-AreApart [] = ⊤
-AreApart (some ∷ rest) = AllByRecursion (ShareNone some) rest × AreApart rest
+abbrev pub AreDisjoint : List (List ℕ) → Type 0
+AreDisjoint [] = ⊤
+AreDisjoint (some ∷ rest) = AllByRecursion (ShareNone some) rest × AreDisjoint rest

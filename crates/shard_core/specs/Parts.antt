@@ -32,7 +32,7 @@ IfSnapshotIs floor first second (Some snapshot) = SnapshotIs floor first second 
 
 -- The entries since the floor at opening are, in order, those settled in files, those of the snapshot and those of the cache. The
 -- cache is what its entries leave on no points; files are as the disk has them, under the deletions past the floor.
-pub record Parts (core : Core) : Type 0 where
+pub record StandsInParts (core : Core) : Type 0 where
   pub settled : List Entry
   pub first : List Entry
   pub second : List Entry

@@ -2,7 +2,7 @@
 use Rattle.std.specs.Prelude.{◌≡◌, ◌≢◌, ◌⊎◌, ℕ, ◌+◌, ◌≤◌, true, false, List, [], ◌∷◌, ◌++◌, map, Option, Some, None}
 use Rattle.point_model.specs.Points.{no_points}
 use Rattle.shard_core.specs.Contents.{held}
-use Rattle.shard_core.specs.Numbers.{count, named, names_of}
+use Rattle.shard_core.specs.Numbers.{count, times_named, names_of}
 use Rattle.shard_core.specs.State.{Core, File, Merge, Snapshot, last_of}
 
 -- The cache becomes the snapshot, with the number of the last entry, and is empty. Its new segment is named by an edit, behind
@@ -37,8 +37,8 @@ abbrev pub name_merge : (File → Option ℕ) → Merge → Merge
 name_merge tombs merge = record merge { sources = map (name_all tombs) merge.sources }
 
 -- the file of a snapshot: its points, with the tombstones that they have by now on the disk
-abbrev pub file_of : Snapshot → ℕ → Option ℕ → File
-file_of snapshot number tomb = record {
+abbrev pub snapshot_file : Snapshot → ℕ → Option ℕ → File
+snapshot_file snapshot number tomb = record {
   stored = record { no = number; generation = snapshot.number; tomb = tomb; content = snapshot.now };
   now = snapshot.now;
 }
@@ -47,12 +47,12 @@ file_of snapshot number tomb = record {
 abbrev pub IsFileOf : Snapshot → List File → Type 0
 IsFileOf snapshot made =
     ((snapshot.points ≡ no_points) × (made ≡ []))
-    ⊎ ((snapshot.points ≢ no_points) × ((no : ℕ) × (tomb : Option ℕ) × (made ≡ file_of snapshot no tomb ∷ [])))
+    ⊎ ((snapshot.points ≢ no_points) × ((no : ℕ) × (tomb : Option ℕ) × (made ≡ snapshot_file snapshot no tomb ∷ [])))
 
 -- Numbers from outside, that nothing names, come to be named or condemned, and nothing that was named is lost but by condemning it.
 pub record Renames (old : Core) (files : List File) (condemned : List ℕ) : Type 0 where
   pub outside : List ℕ
-  pub unused : (n : ℕ) → count n outside + named old n ≤ 1
+  pub unused : (n : ℕ) → count n outside + times_named old n ≤ 1
   pub moved : (n : ℕ) → count n (names_of files) + count n condemned ≡ count n (names_of old.files) + count n outside
 
 -- the snapshot's file is the newest, all tombstones are on the disk, and the floor is the snapshot's number
@@ -83,5 +83,5 @@ pub record AbandonsSnapshot (old new : Core) : Type 0 where
   pub stands : old.snapshot ≡ Some snapshot
   pub out : snapshot.out ≡ true
   pub adopted : List ℕ
-  pub unused : (n : ℕ) → count n adopted + named old n ≤ 1
+  pub unused : (n : ℕ) → count n adopted + times_named old n ≤ 1
   pub same : new ≡ record old { snapshot = Some (record snapshot { out = false }); condemned = adopted ++ old.condemned }

@@ -7,7 +7,7 @@ use Rattle.point_model.specs.Points.{Points}
 use Rattle.point_model.specs.Contents.{Content}
 
 -- A file as the disk has it: its number, its generation, its tombstone file, and what is live in it under these tombstones.
-pub record Stored : Type 0 where
+pub record StoredFile : Type 0 where
   pub no : ℕ
   pub generation : ℕ
   pub tomb : Option ℕ
@@ -15,7 +15,7 @@ pub record Stored : Type 0 where
 
 -- A file as the disk has it, and what is live in it now: memory may have further tombstones.
 pub record File : Type 0 where
-  pub stored : Stored
+  pub stored : StoredFile
   pub now : Content
 
 -- A cache on its way to a file: its points, what is live of them now, the number of its last entry, and whether its job is out.
@@ -39,13 +39,13 @@ pub record View : Type 0 where
 
 -- What a directory has: its files, oldest first, its floor, and the entries of its log past the floor.
 pub record Image : Type 0 where
-  pub files : List Stored
+  pub files : List StoredFile
   pub floor : ℕ
   pub entries : List Entry
 
 -- a directory without files and entries
-abbrev pub empty : Image
-empty = record { files = []; floor = 0; entries = [] }
+abbrev pub empty_image : Image
+empty_image = record { files = []; floor = 0; entries = [] }
 
 -- The points and the number at opening, the floor then, the entries that the directory had past it, and those since. Files, oldest
 -- first; the entry and the edit that may have been made, the edit as the directory that it leaves; index and stored index as sets.
@@ -68,8 +68,8 @@ pub record Core : Type 0 where
   pub stored : Key → Bool
 
 -- the points after the history
-abbrev pub points_of : Core → Points
-points_of core = after core.start.points core.history
+abbrev pub points_now : Core → Points
+points_now core = after core.start.points core.history
 
 -- the number of the last entry
 abbrev pub last_of : Core → ℕ

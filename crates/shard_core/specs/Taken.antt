@@ -14,18 +14,18 @@ use Rattle.point_model.specs.Contents.{acted}
 use Rattle.shard_core.specs.Contents.{left}
 use Rattle.shard_core.specs.Files.{content_in, on_disk}
 use Rattle.shard_core.specs.Shown.{image_of}
-use Rattle.shard_core.specs.State.{Core, Image, points_of}
+use Rattle.shard_core.specs.State.{Core, Image, points_now}
 use Rattle.shard_core.specs.Kinds.{OneKind}
 
 -- Each field of the batch that the content has, has the batch's kind there; and the batch has one kind for each field.
-pub record Accepts (content : Content) (batch : List Point) : Type 0 where
+pub record AcceptsFields (content : Content) (batch : List Point) : Type 0 where
   pub accepted : (cell : Cell) (value : Value) → content cell ≡ Some value → (point : Point) → Contains batch point
       → IsTrue (is_same_field cell point.cell) → kind_of value ≡ kind_of point.value
   pub one_kind : HasOneKind batch
 
 -- a batch that the content accepts, or a deletion
 abbrev pub Admits : Content → Entry → Type 0
-Admits content (Write client batch) = Accepts content batch
+Admits content (Write client batch) = AcceptsFields content batch
 Admits content (Delete client deletion) = ⊤
 
 -- each entry is admitted by what those before it leave
@@ -43,14 +43,14 @@ pub record EntriesTaken (core : Core) : Type 0 where
   pub base : Content
   pub takes : AdmitsAll base (image_of core).entries
   pub below : Below (overlay (map on_disk core.files)) base
-  pub leads : (cell : Cell) → left (image_of core).entries base cell ≡ held (points_of core) cell
+  pub leads : (cell : Cell) → left (image_of core).entries base cell ≡ held (points_now core) cell
 
 -- The files of a directory have one kind for each field, and its log can be read again.
-pub record IsReadable (image : Image) : Type 0 where
+pub record IsReadableImage (image : Image) : Type 0 where
   pub kinds : OneKind (map content_in image.files)
   pub takes : AdmitsAll (overlay (map content_in image.files)) image.entries
 
 -- What is in doubt could be read again: the directory that an edit would leave, and the entry behind the history.
 pub record DoubtsTaken (core : Core) : Type 0 where
-  pub edit : (image : Image) → core.edit ≡ Some image → IsReadable image
-  pub entry : (entry : Entry) → core.doubt ≡ Some entry → Admits (held (points_of core)) entry
+  pub edit : (image : Image) → core.edit ≡ Some image → IsReadableImage image
+  pub entry : (entry : Entry) → core.doubt ≡ Some entry → Admits (held (points_now core)) entry

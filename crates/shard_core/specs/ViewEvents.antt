@@ -1,7 +1,7 @@
 -- What do views and the removal of files make of the state?
 use Rattle.std.specs.Prelude.{◌≡◌, ◌⊎◌, ℕ, ◌+◌, ◌-◌, ◌<◌, ◌==◌, ◌&&◌, nat_lt, Bool, true, not, List, ◌∷◌, ◌++◌, map, filter, None}
 use Rattle.shard_core.specs.Numbers.{count}
-use Rattle.shard_core.specs.Files.{number_of}
+use Rattle.shard_core.specs.Files.{file_number}
 use Rattle.shard_core.specs.Shown.{contents_of}
 use Rattle.shard_core.specs.State.{Core, View, last_of}
 
@@ -16,7 +16,7 @@ with_view view core = record core { views = view ∷ core.views; holds = λ n. c
 -- a view of this moment holds some of the files, and each of these gets a hold
 pub record BeginsView (old new : Core) : Type 0 where
   pub held : List ℕ
-  pub present : (n : ℕ) → 0 < count n held → 0 < count n (map number_of old.files)
+  pub present : (n : ℕ) → 0 < count n held → 0 < count n (map file_number old.files)
   pub same : new ≡ with_view (view_of old held) old
 
 -- the view goes with its holds

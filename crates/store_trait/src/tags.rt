@@ -80,7 +80,11 @@ fn add_series_keys(
 }
 
 /// Puts the keys of the tags of a series behind those that were found before.
-pub fn add_tag_keys(alloc: Global, series: &SeriesKey, found: &mut Vec<Name>) -> Result<(), AllocError>
+pub fn add_tag_keys(
+    alloc: Global,
+    series: &SeriesKey,
+    found: &mut Vec<Name>,
+) -> Result<(), AllocError>
     ensures keys { OnOk result (found.new.items ≡ found.old.items ++ keys_in series.now) }
 {
     let (_measurement, tags) = cut(series.text().as_bytes(), b',');

@@ -61,7 +61,11 @@ fn words_of(alloc: Global, texts: &[&str]) -> Result<Vec<Word>, AllocError> {
 }
 
 /// Runs the program with these words over the desk.
-fn run(rt: &HostRuntime, texts: &[&str], mut desk: MemDesk<MemDisk>) -> Result<Outcome, AllocError> {
+fn run(
+    rt: &HostRuntime,
+    texts: &[&str],
+    mut desk: MemDesk<MemDisk>,
+) -> Result<Outcome, AllocError> {
     let alloc = rt.alloc();
     let words = words_of(alloc, texts)?;
     let mut out = MemSink::new(alloc, Vec::new(alloc));
