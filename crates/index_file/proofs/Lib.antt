@@ -1,0 +1,9 @@
+mod TakeLemmas
+mod CountedLemmas
+mod TextLemmas
+mod ItemLemmas
+mod FitLemmas
+mod MeasurementLemmas
+mod SumLemmas
+mod PutLemmas
+mod ReadLemmas
