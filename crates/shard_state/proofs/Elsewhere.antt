@@ -1,5 +1,5 @@
 -- What a change of one file leaves of the others.
-use Rattle.std.proofs.Common.{◌≢◌, ℕ, List, [], ◌∷◌, sym, subst, Option}
+use Rattle.std.proofs.Common.{◌≢◌, ℕ, List, [], ◌∷◌, sym, subst, Option, None}
 use Rattle.std.specs.Prelude.{IsSomeAnd}
 use Rattle.shard_disk.specs.Crash.{Crashes, Everywhere, Leaves}
 use Rattle.shard_disk.specs.Directory.{ChangesAt, Directory, HasFile, Step}
@@ -11,7 +11,9 @@ use Rattle.file_table.specs.declared.row.FileRow.{FileRow}
 use Rattle.point_model.specs.Points.{Points}
 use Rattle.shard_state.specs.Layers.{HasLayers, IsLayer}
 use Rattle.shard_state.specs.Books.{HasClosedSegments, IsApart, IsClosedLog}
-use Rattle.shard_state.specs.Keeping.{KeepsEarlier, KeepsLayers}
+use Rattle.manifest_log.specs.declared.directory.Directory.{Directory as Named}
+use Rattle.manifest_log.specs.Reading.{bodies_of}
+use Rattle.shard_state.specs.Keeping.{KeepsEarlier, KeepsLayers, KeepsManifest, KeepsSeriesFile}
 
 pub file_elsewhere : (file changed : ℕ) (step : Step) (P : List ℕ → Type 0) (d c : Directory) → file ≢ changed → ChangesAt changed step d c → HasFile d file P → HasFile c file P
 file_elsewhere file changed step P d c apart made had = subst (λ (o : Option (List ℕ)). IsSomeAnd o P) (sym (made.others file apart)) had
@@ -51,3 +53,25 @@ module _ (changed : ℕ) (step more : Step) (files files' : Directory) (crashes 
   keeps_layers_elsewhere [] (l ∷ layers) apart had = had
   keeps_layers_elsewhere (row ∷ rows) [] apart had = had
   keeps_layers_elsewhere (row ∷ rows) (l ∷ layers) apart had = (everywhere_elsewhere row.no (IsLayer row l) apart.0 had.0, keeps_layers_elsewhere rows layers apart.1 had.1)
+
+  pub manifest_elsewhere : (log : Log) (named : Named) → log.file ≢ changed → KeepsManifest files crashes log named → KeepsManifest files' crashes' log named
+  manifest_elsewhere log named apart had = record {
+    edits = had.edits;
+    some = had.some;
+    lead = had.lead;
+    segment = had.segment;
+    file = had.file;
+    gate = had.gate;
+    stands = stands_elsewhere log (bodies_of had.edits) None apart had.stands;
+  }
+
+  pub series_elsewhere : (log : Log) (file : ℕ) (series : List (List ℕ)) → log.file ≢ changed → KeepsSeriesFile files crashes log file series → KeepsSeriesFile files' crashes' log file series
+  series_elsewhere log file series apart had = record {
+    records = had.records;
+    doubt = had.doubt;
+    own = had.own;
+    hold = had.hold;
+    doubts = had.doubts;
+    gate = had.gate;
+    stands = stands_elsewhere log had.records had.doubt apart had.stands;
+  }

@@ -30,7 +30,7 @@ use Rattle.shard_state.proofs.Entering.{on_err_then}
 use Rattle.shard_state.proofs.GoingOn.{left_now, ran_on}
 use Rattle.shard_state.proofs.Images.{image_now, layers_image}
 use Rattle.shard_state.proofs.Standing.{StandsAs, StandsAsWithAtMost, image_named}
-use Rattle.shard_state.proofs.Steps.{may_be_next, settle_crash, settle_leaves}
+use Rattle.shard_state.proofs.Steps.{keeps_left, may_be_next, settle_crash}
 
 -- what is so where a call was accepted and where it was refused
 pub either_way : {T E A B C : Type 0} (r : Result T E) → OnOk r A → OnErr r B → (A → C) → (B → C) → C
@@ -55,7 +55,7 @@ module _ {D R W : Type 0} (g : Ghosts D R W) (old : Logs D) (disk : D) (wal : Se
   settles_ok : OnOk result (IsTrue g.tells → (books : Books) (doubt : Option Entry) → Holds g old books doubt → Holds g settled books None)
   settles_ok = on_ok_then result
       (λ settles. λ told books doubt holds. record {
-        keeps = settle_leaves (IsTrue g.tells) told (g.files old.disk) (g.files disk) (g.crashes old.disk) (g.crashes disk) old.manifest.log old.series old.wal wal books doubt holds.keeps (settle_run told books doubt holds) settling.kept files None None tt
+        keeps = keeps_left (IsTrue g.tells) told (g.files old.disk) (g.files disk) (g.crashes old.disk) (g.crashes disk) old.manifest.log old.series old.wal wal books doubt holds.keeps _ (settle_run told books doubt holds) settling.kept files None None tt
             (settles.stands told holds.keeps.latest.records holds.keeps.latest.body holds.keeps.latest.stands);
         adopted = adopted_still books doubt holds;
         number = holds.number;
@@ -65,7 +65,7 @@ module _ {D R W : Type 0} (g : Ghosts D R W) (old : Logs D) (disk : D) (wal : Se
   settles_none : OnErr result (IsTrue g.tells → (books : Books) (doubt : Option Entry) → Holds g old books doubt → Holds g settled books doubt)
   settles_none = on_err_then result
       (λ remains. λ told books doubt holds. record {
-        keeps = settle_leaves (IsTrue g.tells) told (g.files old.disk) (g.files disk) (g.crashes old.disk) (g.crashes disk) old.manifest.log old.series old.wal wal books doubt holds.keeps (settle_run told books doubt holds) settling.kept files doubt
+        keeps = keeps_left (IsTrue g.tells) told (g.files old.disk) (g.files disk) (g.crashes old.disk) (g.crashes disk) old.manifest.log old.series old.wal wal books doubt holds.keeps _ (settle_run told books doubt holds) settling.kept files doubt
             holds.keeps.latest.body holds.keeps.latest.doubts (remains.stands told holds.keeps.latest.records holds.keeps.latest.body holds.keeps.latest.stands);
         adopted = adopted_still books doubt holds;
         number = holds.number;

@@ -22,7 +22,7 @@ use Rattle.shard_state.specs.Crashes.{LeavesOnly}
 use Rattle.shard_state.specs.Engine.{IsLeftEntry}
 use Rattle.shard_state.specs.Keeping.{KeepsLayers, IsEntryDoubt, IsSeriesDoubt, Keeps, KeepsEarlier, KeepsManifest, KeepsSeriesFile}
 use Rattle.shard_state.specs.Meaning.{StandsWithAtMost}
-use Rattle.shard_state.proofs.Elsewhere.{earlier_elsewhere, keeps_layers_elsewhere, stands_elsewhere}
+use Rattle.shard_state.proofs.Elsewhere.{earlier_elsewhere, keeps_layers_elsewhere, manifest_elsewhere, series_elsewhere, stands_elsewhere}
 use Rattle.shard_state.proofs.Images.{image_now, latest_at_most, latest_changes, next_records, records_more, series_at_most, series_changes, series_doubts}
 use Rattle.shard_state.proofs.Leaving.{leaves_of}
 use Rattle.shard_state.proofs.Standing.{image_stands, next_series, sound_entry, sound_series}
@@ -63,33 +63,24 @@ module _ (tells : Type 0) (told : tells) (files files' : Directory) (crashes cra
       run
 
   module _ (kept : KeepsFile tells old.log new.log files files') where
+    made : ChangesAt books.series_file Anything files files'
+    made = subst (λ (n : ℕ). ChangesAt n Anything files files') keeps.series.own (kept.others told)
+
+    ran : Leaves (ChangesAt books.series_file adding) crashes crashes'
+    ran = subst (λ (n : ℕ). Leaves (ChangesAt n adding) crashes crashes') keeps.series.own run
+
     manifest_there : KeepsManifest files' crashes' log books.named
-    manifest_there = record {
-      edits = keeps.manifest.edits;
-      some = keeps.manifest.some;
-      lead = keeps.manifest.lead;
-      segment = keeps.manifest.segment;
-      file = keeps.manifest.file;
-      gate = keeps.manifest.gate;
-      stands = stands_elsewhere old.log.file Anything _ files files' crashes crashes' (kept.others told) run log (bodies_of keeps.manifest.edits) None
-          (λ e. keeps.sound.apart.series_manifest (sym keeps.manifest.file ∙ e ∙ keeps.series.own)) keeps.manifest.stands;
-    }
+    manifest_there = manifest_elsewhere books.series_file Anything adding files files' crashes crashes' made ran log books.named (λ e. keeps.sound.apart.series_manifest (sym keeps.manifest.file ∙ e)) keeps.manifest
 
     earlier_there : KeepsEarlier files' crashes' books.before books.earlier
-    earlier_there =
-        earlier_elsewhere books.series_file Anything adding files files' crashes crashes'
-        (subst (λ (n : ℕ). ChangesAt n Anything files files') keeps.series.own (kept.others told)) (subst (λ (n : ℕ). Leaves (ChangesAt n adding) crashes crashes') keeps.series.own run)
-        books.before books.earlier keeps.sound.apart.series_before keeps.earlier
+    earlier_there = earlier_elsewhere books.series_file Anything adding files files' crashes crashes' made ran books.before books.earlier keeps.sound.apart.series_before keeps.earlier
 
     layers_there : KeepsLayers files' crashes' books.named.files books.layers
-    layers_there =
-        keeps_layers_elsewhere books.series_file Anything adding files files' crashes crashes' (subst (λ (n : ℕ). ChangesAt n Anything files files') keeps.series.own (kept.others told))
-        (subst (λ (n : ℕ). Leaves (ChangesAt n adding) crashes crashes') keeps.series.own run) books.named.files books.layers keeps.sound.apart.series_rows keeps.layers
+    layers_there = keeps_layers_elsewhere books.series_file Anything adding files files' crashes crashes' made ran books.named.files books.layers keeps.sound.apart.series_rows keeps.layers
 
     latest_stands : Stands files' crashes' wal.log keeps.latest.records keeps.latest.body
     latest_stands =
-        stands_elsewhere old.log.file Anything _ files files' crashes crashes' (kept.others told) run wal.log keeps.latest.records keeps.latest.body
-        (λ e. keeps.sound.apart.last_series (sym keeps.series.own ∙ sym e ∙ keeps.latest.own)) keeps.latest.stands
+        stands_elsewhere books.series_file Anything adding files files' crashes crashes' made ran wal.log keeps.latest.records keeps.latest.body (λ e. keeps.sound.apart.last_series (sym e ∙ keeps.latest.own)) keeps.latest.stands
 
     -- the series are there
     pub series_added : new.keys ≡ old.keys ++ more → Stands files' crashes' new.log (keeps.series.records ++ record_bytes more ∷ []) None → Keeps files' crashes' log new wal (with_series books more) doubt
@@ -156,6 +147,40 @@ module _ (tells : Type 0) (told : tells) (files files' : Directory) (crashes cra
       segments = keeps.segments;
     }
 
+-- the last segment was changed, by calls that leave every other file
+module _ (tells : Type 0) (told : tells) (files files' : Directory) (crashes crashes' : Crashes) (log : Log) (series : Kept) (old new : Segments) (books : Books) (doubt : Option Entry)
+    (keeps : Keeps files crashes log series old books doubt) (step : Step) (run : Leaves (ChangesAt old.log.file step) crashes crashes') (kept : KeepsFile tells old.log new.log files files') where
+  changed : ChangesAt books.last Anything files files'
+  changed = subst (λ (n : ℕ). ChangesAt n Anything files files') keeps.latest.own (kept.others told)
+
+  changing : Leaves (ChangesAt books.last step) crashes crashes'
+  changing = subst (λ (n : ℕ). Leaves (ChangesAt n step) crashes crashes') keeps.latest.own run
+
+  pub manifest_stays : KeepsManifest files' crashes' log books.named
+  manifest_stays = manifest_elsewhere books.last Anything step files files' crashes crashes' changed changing log books.named (λ e. keeps.sound.apart.last_manifest (sym keeps.manifest.file ∙ e)) keeps.manifest
+
+  pub earlier_stays : KeepsEarlier files' crashes' books.before books.earlier
+  earlier_stays = earlier_elsewhere books.last Anything step files files' crashes crashes' changed changing books.before books.earlier keeps.sound.apart.last_before keeps.earlier
+
+  pub layers_stay : KeepsLayers files' crashes' books.named.files books.layers
+  layers_stay = keeps_layers_elsewhere books.last Anything step files files' crashes crashes' changed changing books.named.files books.layers keeps.sound.apart.last_rows keeps.layers
+
+  pub series_stays : KeepsSeriesFile files' crashes' series.log books.series_file books.series
+  series_stays = series_elsewhere books.last Anything step files files' crashes crashes' changed changing series.log books.series_file books.series (λ e. keeps.sound.apart.last_series (sym keeps.series.own ∙ e)) keeps.series
+
+  -- its entries are the same, and this one is in doubt or none
+  pub keeps_left : new.files ≡ old.files → (left : Option Entry) (body : Option (List ℕ)) → IsEntryDoubt books left body → Stands files' crashes' new.log keeps.latest.records body → Keeps files' crashes' log series new books left
+  keeps_left same_files left body doubts stands = record {
+    sound = keeps.sound;
+    manifest = manifest_stays;
+    keys = keeps.keys;
+    series = series_stays;
+    layers = layers_stay;
+    earlier = earlier_stays;
+    latest = record { records = keeps.latest.records; body = body; own = kept.file ∙ keeps.latest.own; are = keeps.latest.are; doubts = doubts; gate = kept.gate keeps.latest.gate; stands = stands };
+    segments = same_files ∙ keeps.segments;
+  }
+
 module _ (tells : Type 0) (told : tells) (files files' : Directory) (crashes crashes' : Crashes) (log : Log) (series : Kept) (old new : Segments) (books : Books) (doubt : Option Entry)
     (keeps : Keeps files crashes log series old books doubt) (entry : Entry) (body : List ℕ)
     (run : Leaves (ChangesAt old.log.file (Ends (WithAtMost keeps.latest.records (body ∷ doubtful keeps.latest.body)))) crashes crashes')
@@ -174,66 +199,15 @@ module _ (tells : Type 0) (told : tells) (files files' : Directory) (crashes cra
       run
 
   module _ (kept : KeepsFile tells old.log new.log files files') (same_files : new.files ≡ old.files) where
-    manifest_stays : KeepsManifest files' crashes' log books.named
-    manifest_stays = record {
-      edits = keeps.manifest.edits;
-      some = keeps.manifest.some;
-      lead = keeps.manifest.lead;
-      segment = keeps.manifest.segment;
-      file = keeps.manifest.file;
-      gate = keeps.manifest.gate;
-      stands = stands_elsewhere old.log.file Anything _ files files' crashes crashes' (kept.others told) run log (bodies_of keeps.manifest.edits) None
-          (λ e. keeps.sound.apart.last_manifest (sym keeps.manifest.file ∙ e ∙ keeps.latest.own)) keeps.manifest.stands;
-    }
-
-    earlier_stays : KeepsEarlier files' crashes' books.before books.earlier
-    earlier_stays =
-        earlier_elsewhere books.last Anything entering files files' crashes crashes'
-        (subst (λ (n : ℕ). ChangesAt n Anything files files') keeps.latest.own (kept.others told)) (subst (λ (n : ℕ). Leaves (ChangesAt n entering) crashes crashes') keeps.latest.own run)
-        books.before books.earlier keeps.sound.apart.last_before keeps.earlier
-
-    layers_stay : KeepsLayers files' crashes' books.named.files books.layers
-    layers_stay =
-        keeps_layers_elsewhere books.last Anything entering files files' crashes crashes' (subst (λ (n : ℕ). ChangesAt n Anything files files') keeps.latest.own (kept.others told))
-        (subst (λ (n : ℕ). Leaves (ChangesAt n entering) crashes crashes') keeps.latest.own run) books.named.files books.layers keeps.sound.apart.last_rows keeps.layers
-
-    series_stays : KeepsSeriesFile files' crashes' series.log books.series_file books.series
-    series_stays = record {
-      records = keeps.series.records;
-      doubt = keeps.series.doubt;
-      own = keeps.series.own;
-      hold = keeps.series.hold;
-      doubts = keeps.series.doubts;
-      gate = keeps.series.gate;
-      stands = stands_elsewhere old.log.file Anything _ files files' crashes crashes' (kept.others told) run series.log keeps.series.records keeps.series.doubt
-          (λ e. keeps.sound.apart.last_series (sym keeps.series.own ∙ e ∙ keeps.latest.own)) keeps.series.stands;
-    }
-
     -- the entry is there
     pub entry_added : Stands files' crashes' new.log (keeps.latest.records ++ body ∷ []) None → Keeps files' crashes' log series new (with_entry books entry) None
     entry_added stands = record {
       sound = sound_entry books entry keeps.sound next;
-      manifest = record {
-        edits = manifest_stays.edits;
-        some = manifest_stays.some;
-        lead = manifest_stays.lead;
-        segment = manifest_stays.segment;
-        file = manifest_stays.file;
-        gate = manifest_stays.gate;
-        stands = manifest_stays.stands;
-      };
+      manifest = manifest_stays tells told files files' crashes crashes' log series old new books doubt keeps entering run kept;
       keys = keeps.keys;
-      series = record {
-        records = series_stays.records;
-        doubt = series_stays.doubt;
-        own = series_stays.own;
-        hold = series_stays.hold;
-        doubts = series_stays.doubts;
-        gate = series_stays.gate;
-        stands = series_stays.stands;
-      };
-      layers = layers_stay;
-      earlier = earlier_stays;
+      series = series_stays tells told files files' crashes crashes' log series old new books doubt keeps entering run kept;
+      layers = layers_stay tells told files files' crashes crashes' log series old new books doubt keeps entering run kept;
+      earlier = earlier_stays tells told files files' crashes crashes' log series old new books doubt keeps entering run kept;
       latest = record {
         records = keeps.latest.records ++ body ∷ [];
         body = None;
@@ -246,26 +220,14 @@ module _ (tells : Type 0) (told : tells) (files files' : Directory) (crashes cra
       segments = same_files ∙ keeps.segments;
     }
 
-    keeps_left : (left : Option Entry) (left_body : Option (List ℕ)) → IsEntryDoubt books left left_body → Stands files' crashes' new.log keeps.latest.records left_body → Keeps files' crashes' log series new books left
-    keeps_left left left_body doubts stands = record {
-      sound = keeps.sound;
-      manifest = manifest_stays;
-      keys = keeps.keys;
-      series = series_stays;
-      layers = layers_stay;
-      earlier = earlier_stays;
-      latest = record { records = keeps.latest.records; body = left_body; own = kept.file ∙ keeps.latest.own; are = keeps.latest.are; doubts = doubts; gate = kept.gate keeps.latest.gate; stands = stands };
-      segments = same_files ∙ keeps.segments;
-    }
-
     -- it is not, and may be in doubt
     pub entry_refused : (fault : Type 0) (left : Option (List ℕ)) → IsLeft keeps.latest.body body fault left → Stands files' crashes' new.log keeps.latest.records left
         → (entry_left : Option Entry) × IsLeftEntry doubt entry entry_left × Keeps files' crashes' log series new books entry_left
     entry_refused fault left is stands =
-        ⊎_elim (λ none. (None, inl refl, keeps_left None None tt (subst (λ (o : Option (List ℕ)). Stands files' crashes' new.log keeps.latest.records o) none stands)))
+        ⊎_elim (λ none. (None, inl refl, keeps_left tells told files files' crashes crashes' log series old new books doubt keeps entering run kept same_files None None tt (subst (λ (o : Option (List ℕ)). Stands files' crashes' new.log keeps.latest.records o) none stands)))
         (λ other. ⊎_elim
-        (λ was. (doubt, inr (inl refl), keeps_left doubt keeps.latest.body keeps.latest.doubts (subst (λ (o : Option (List ℕ)). Stands files' crashes' new.log keeps.latest.records o) was stands)))
-        (λ own. (Some entry, inr (inr refl), keeps_left (Some entry) (Some body) (spells, next) (subst (λ (o : Option (List ℕ)). Stands files' crashes' new.log keeps.latest.records o) own.1 stands)))
+        (λ was. (doubt, inr (inl refl), keeps_left tells told files files' crashes crashes' log series old new books doubt keeps entering run kept same_files doubt keeps.latest.body keeps.latest.doubts (subst (λ (o : Option (List ℕ)). Stands files' crashes' new.log keeps.latest.records o) was stands)))
+        (λ own. (Some entry, inr (inr refl), keeps_left tells told files files' crashes crashes' log series old new books doubt keeps entering run kept same_files (Some entry) (Some body) (spells, next) (subst (λ (o : Option (List ℕ)). Stands files' crashes' new.log keeps.latest.records o) own.1 stands)))
         other) is
 
 module _ (tells : Type 0) (told : tells) (files files' : Directory) (crashes crashes' : Crashes) (log : Log) (series : Kept) (old new : Segments) (books : Books) (doubt : Option Entry)
@@ -282,40 +244,3 @@ module _ (tells : Type 0) (told : tells) (files files' : Directory) (crashes cra
       (renamed old.log.file books.last _ (IsClosedLog (IsLatest books (option_to_list doubt))) d c keeps.latest.own
       (latest_at_most books keeps.latest.records (option_to_list doubt) (doubtful keeps.latest.body) keeps.latest.are (next_records books doubt keeps.latest.body keeps.latest.doubts)) made)))
       run
-
-  -- after it this entry is in doubt or none
-  pub settle_leaves : KeepsFile tells old.log new.log files files' → new.files ≡ old.files → (left : Option Entry) (body : Option (List ℕ)) → IsEntryDoubt books left body → Stands files' crashes' new.log keeps.latest.records body
-      → Keeps files' crashes' log series new books left
-  settle_leaves kept same_files left body doubts stands = record {
-    sound = keeps.sound;
-    manifest = record {
-      edits = keeps.manifest.edits;
-      some = keeps.manifest.some;
-      lead = keeps.manifest.lead;
-      segment = keeps.manifest.segment;
-      file = keeps.manifest.file;
-      gate = keeps.manifest.gate;
-      stands = stands_elsewhere old.log.file Anything settling files files' crashes crashes' (kept.others told) run log (bodies_of keeps.manifest.edits) None
-          (λ e. keeps.sound.apart.last_manifest (sym keeps.manifest.file ∙ e ∙ keeps.latest.own)) keeps.manifest.stands;
-    };
-    keys = keeps.keys;
-    series = record {
-      records = keeps.series.records;
-      doubt = keeps.series.doubt;
-      own = keeps.series.own;
-      hold = keeps.series.hold;
-      doubts = keeps.series.doubts;
-      gate = keeps.series.gate;
-      stands = stands_elsewhere old.log.file Anything settling files files' crashes crashes' (kept.others told) run series.log keeps.series.records keeps.series.doubt
-          (λ e. keeps.sound.apart.last_series (sym keeps.series.own ∙ e ∙ keeps.latest.own)) keeps.series.stands;
-    };
-    layers =
-        keeps_layers_elsewhere books.last Anything settling files files' crashes crashes' (subst (λ (n : ℕ). ChangesAt n Anything files files') keeps.latest.own (kept.others told))
-        (subst (λ (n : ℕ). Leaves (ChangesAt n settling) crashes crashes') keeps.latest.own run) books.named.files books.layers keeps.sound.apart.last_rows keeps.layers;
-    earlier =
-        earlier_elsewhere books.last Anything settling files files' crashes crashes'
-        (subst (λ (n : ℕ). ChangesAt n Anything files files') keeps.latest.own (kept.others told)) (subst (λ (n : ℕ). Leaves (ChangesAt n settling) crashes crashes') keeps.latest.own run)
-        books.before books.earlier keeps.sound.apart.last_before keeps.earlier;
-    latest = record { records = keeps.latest.records; body = body; own = kept.file ∙ keeps.latest.own; are = keeps.latest.are; doubts = doubts; gate = kept.gate keeps.latest.gate; stands = stands };
-    segments = same_files ∙ keeps.segments;
-  }

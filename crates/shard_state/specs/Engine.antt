@@ -1,11 +1,12 @@
 -- What holds of an engine's logs over their disk?
-use Rattle.std.specs.Prelude.{◌≡◌, ◌≢◌, ◌⊎◌, ℕ, ◌+◌, ◌<◌, ◌≤◌, List, [], length, Option, None, Some, IsTrue}
+use Rattle.std.specs.Prelude.{◌≡◌, ◌≢◌, ◌⊎◌, ℕ, ◌+◌, ◌<◌, ◌≤◌, List, [], length, Option, None, Some, IfSome, IsTrue}
 use Rattle.shard_disk.specs.HandedOut.{HandedOut}
 use Rattle.shard_disk.specs.declared.disk.Disk.{Ghosts}
 use Rattle.gate_log.specs.Log.{IsPlaced}
 use Rattle.point_model.specs.Histories.{State}
 use Rattle.point_model.specs.declared.entry.Entry.{Entry}
 use Rattle.manifest_log.specs.declared.directory.Directory.{Directory as Named}
+use Rattle.series_store.specs.Calls.{Kept}
 use Rattle.series_store.specs.Lists.{MayAdd}
 use Rattle.wal_store.specs.Segments.{SpellsRecord, last_number}
 use Rattle.shard_state.specs.declared.logs.Logs.{Logs}
@@ -47,10 +48,14 @@ abbrev pub series_in : Option (List (List ℕ)) → List (List ℕ)
 series_in None = []
 series_in (Some series) = series
 
--- what was prepared can be entered: its series may be added and have room in memory, and the entry has the next number
+-- the series may be added, and there is room for them in memory
+pub record HasRoomFor (held : Kept) (series : List (List ℕ)) : Type 0 where
+  pub may : MayAdd held.keys series
+  pub room : length series ≤ held.room
+
+-- what was prepared can be entered: its series can be added, and the entry has the next number
 pub record MayEnter {D : Type 0} (logs : Logs D) (prepared : Prepared) : Type 0 where
-  pub may : MayAdd logs.series.keys (series_in prepared.series)
-  pub room : length (series_in prepared.series) ≤ logs.series.room
+  pub series : IfSome prepared.series (HasRoomFor logs.series)
   pub number : prepared.record.number ≡ logs.number + 1
   pub limit : logs.number < last_number
 

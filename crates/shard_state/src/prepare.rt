@@ -1,12 +1,14 @@
 // What an entry needs in memory.
-ghost use Rattle.std.specs.Prelude.{◌≡◌, ◌<◌, IfOk};
+ghost use Rattle.std.specs.Prelude.{◌≡◌, ◌<◌, [], IfOk};
 ghost use Rattle.point_model.specs.Acceptance.{IsWritable};
+ghost use Rattle.point_model.specs.Deletions.{IsLoggable};
 ghost use Rattle.point_model.specs.declared.entry.Entry.{Entry};
 ghost use Rattle.series_store.specs.Lists.{MayAdd};
 ghost use Rattle.wal_store.specs.Segments.{last_number};
 ghost use Rattle.shard_state.specs.Engine.{IsRecordOf, MayEnter, series_in};
 
 use crate::Logs;
+use point_model::Deletion;
 use series_store::NewSeries;
 use std::alloc::AllocError;
 use tsdb_types::{Batch, SeriesKey};
@@ -44,5 +46,21 @@ impl<D> Logs<D> {
         };
         let record = self.wal.write_record(self.number + 1, client, batch)?;
         Ok(Prepared { series, record })
+    }
+
+    /// Makes a deletion ready to be entered, as `prepare` does a batch.
+    pub fn prepare_deletion(&self, client: u32, deletion: &Deletion) -> Result<Prepared, AllocError>
+        requires loggable { IsLoggable deletion.now }
+        requires limit { self.now.number < last_number }
+
+        ensures ready { IfOk result (MayEnter self.now) }
+        ensures series { IfOk result (λ prepared. series_in prepared.series ≡ []) }
+        ensures record { IfOk result (IsRecordOf (Entry.Delete client deletion.now)) }
+    {
+        let record = self.wal.delete_record(self.number + 1, client, deletion)?;
+        Ok(Prepared {
+            series: None,
+            record,
+        })
     }
 }
