@@ -1,0 +1,10 @@
+mod ColumnLemmas
+mod CommitLemmas
+mod ConflictLemmas
+mod CutLemmas
+mod FieldLemmas
+mod HeldLemmas
+mod KnownLemmas
+mod ListedLemmas
+mod SampleLemmas
+mod SetLemmas

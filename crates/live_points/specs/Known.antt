@@ -5,17 +5,13 @@ use Rattle.std.specs.BTreeSet.{BTreeSet, contains}
 use Rattle.std.specs.Option.{option_and_then}
 use Rattle.tsdb_types.specs.Columns.{column_of}
 use Rattle.tsdb_types.specs.Keys.{IsFirstMark}
-use Rattle.tsdb_types.specs.Moments.{IsMoment}
 use Rattle.tsdb_types.specs.Values.{kind_of}
 use Rattle.tsdb_types.specs.declared.column.Column.{Column}
-use Rattle.tsdb_types.specs.declared.point.Cell.{Cell}
 use Rattle.tsdb_types.specs.declared.point.Point.{Point}
-use Rattle.tsdb_types.specs.declared.value.Value.{Value}
 use Rattle.tsdb_types.specs.declared.value.Kind.{Kind}
-use Rattle.point_model.specs.Acceptance.{Conflict, conflict_before, is_same_kind}
+use Rattle.point_model.specs.Acceptance.{Conflict, IsStored, conflict_before, is_same_kind}
 use Rattle.point_model.specs.Cursors.{Key, key_cmp}
-use Rattle.point_model.specs.Measurements.{measurement_head, is_same_field}
-use Rattle.point_model.specs.Points as model
+use Rattle.point_model.specs.Measurements.{measurement_head}
 use Rattle.point_cache.specs.declared.key_points.KeyRun.{KeyRun}
 use Rattle.point_cache.specs.Cached.{AreRuns, value_at}
 use Rattle.store_trait.specs.Slots.{text_cmp}
@@ -44,15 +40,13 @@ abbrev pub IsKnown : Keys → Key → Type 0
 IsKnown keys key = IsTrue (contains key_cmp keys key)
 
 -- Each key with points is known, each known key is cut where it was joined, and each field with points has a sample with points.
--- No field has two kinds.
 pub record Holds (runs : List KeyRun) (keys : Keys) (samples : Samples) : Type 0 where
-  pub runs : AreRuns runs
+  pub are_runs : AreRuns runs
+  pub stored : IsStored (points_of runs)
   pub known : (bytes : List ℕ) (time : ℤ) → IsSome (value_at runs bytes time) → IsKnown keys (cut bytes) × (composite (cut bytes) ≡ bytes)
   pub marked : (key : Key) → IsKnown keys key → IsFirstMark (composite key) (length key.0)
-  pub timed : (bytes : List ℕ) (time : ℤ) → IsSome (value_at runs bytes time) → IsMoment time
   pub placed : (measurement field series : List ℕ) → sample_of samples measurement field ≡ Some series → (measurement_head series ≡ measurement) × IsKnown keys (series, field)
   pub sampled : (key : Key) → IsKnown keys key → IsSome (kind_at runs key) → IsSome (kind_in runs samples (measurement_head key.0) key.1)
-  pub one_kind : (a b : Cell) (v w : Value) → model.value_at (points_of runs) a ≡ Some v → model.value_at (points_of runs) b ≡ Some w → IsTrue (is_same_field a b) → kind_of v ≡ kind_of w
 
 -- the kind that isn't this one
 abbrev pub unlike : Kind → Option Kind → Option Kind

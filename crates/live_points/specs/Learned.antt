@@ -1,11 +1,9 @@
 -- What is made known of a batch before it is set?
-use Rattle.std.specs.Prelude.{◌≡◌, ◌⊎◌, ℕ, Bool, true, List, Option, Some, None, IsSome, slice_get, if◌then◌else◌}
-use Rattle.std.specs.List.{AllByRecursion}
+use Rattle.std.specs.Prelude.{◌≡◌, ◌⊎◌, ℕ, Bool, true, List, All, Option, Some, None, IsSome, slice_get, if◌then◌else◌}
 use Rattle.tsdb_types.specs.Columns.{columns_of}
-use Rattle.tsdb_types.specs.Moments.{IsMoment}
 use Rattle.tsdb_types.specs.declared.column.Column.{Column}
 use Rattle.tsdb_types.specs.declared.point.Point.{Point}
-use Rattle.point_model.specs.Acceptance.{IsWritable}
+use Rattle.point_model.specs.Acceptance.{IsCell, IsWritable}
 use Rattle.point_model.specs.Cursors.{Key}
 use Rattle.point_model.specs.Measurements.{measurement_head}
 use Rattle.point_cache.specs.declared.key_points.KeyRun.{KeyRun}
@@ -36,13 +34,13 @@ SamplesOne runs column old new =
     ⊎ ((kind_in runs old measurement field ≡ None) × (sample_of new measurement field ≡ Some column.series)
     × (measurement_head column.series ≡ measurement) × (column.field ≡ field))
 
--- The samples are as they were but for fields without points, which may have a series of these columns.
-abbrev pub Resamples : List KeyRun → List Column → Samples → Samples → Type 0
-Resamples runs columns old new =
+-- The samples are as they were but for fields without points, which may have the series of one of these columns that is known.
+abbrev pub Resamples : List KeyRun → List Column → Keys → Samples → Samples → Type 0
+Resamples runs columns keys old new =
     (measurement field : List ℕ)
     → (sample_of new measurement field ≡ sample_of old measurement field)
     ⊎ ((kind_in runs old measurement field ≡ None) × (column : Column) × IsAmong columns column × (sample_of new measurement field ≡ Some column.series)
-    × (measurement_head column.series ≡ measurement) × (column.field ≡ field))
+    × (measurement_head column.series ≡ measurement) × (column.field ≡ field) × IsKnown keys (key_of_column column))
 
 -- the field of the column has a sample with points, or one that is a series of these columns
 abbrev pub IsSampled : List KeyRun → List Column → Samples → Column → Type 0
@@ -53,7 +51,7 @@ IsSampled runs columns samples column =
 -- All that a batch needs is known: its columns are, and each of their fields has a sample.
 pub record IsLearned (runs : List KeyRun) (keys : Keys) (samples : Samples) (points : List Point) : Type 0 where
   pub writable : IsWritable points
-  pub timed : AllByRecursion (λ point. IsMoment point.cell.time) points
+  pub cells : All (λ point. IsCell point.cell) points
   pub known : (column : Column) → IsAmong (columns_of points) column → IsKnown keys (key_of_column column)
   pub sampled : (column : Column) → IsAmong (columns_of points) column → IsSampled runs (columns_of points) samples column
 

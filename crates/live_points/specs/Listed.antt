@@ -15,17 +15,18 @@ use Rattle.store_trait.specs.Tags.{keys_in}
 use Rattle.live_points.specs.Held.{composite, kind_at}
 use Rattle.live_points.specs.Known.{Keys, Samples}
 
--- the key has points, and the need asks for its series
-abbrev pub is_listed : List KeyRun → Need → Key → Bool
-is_listed runs need key = (is_series_of need.measurement key.0 && meets need.tags key.0) && is_some (kind_at runs key)
-
--- the keys that a view shows
-abbrev pub listed : List KeyRun → Need → List Key → List Key
-listed runs need keys = filter (is_listed runs need) keys
+-- the need asks for the series
+abbrev pub is_needed : Need → List ℕ → Bool
+is_needed need series = is_series_of need.measurement series && meets need.tags series
 
 -- the key alone, where it has points
 abbrev pub having_points : List KeyRun → Key → List Key
 having_points runs key = if is_some (kind_at runs key) then key ∷ [] else []
+
+-- the keys that a view shows: those that the need asks for and that have points
+abbrev pub listed : List KeyRun → Need → List Key → List Key
+listed runs need [] = []
+listed runs need (key ∷ keys) = if is_needed need key.0 then having_points runs key ++ listed runs need keys else listed runs need keys
 
 -- the rows of a composite key that a view shows
 abbrev pub rows_between : List KeyRun → Need → List ℕ → List Row

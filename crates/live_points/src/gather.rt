@@ -1,8 +1,6 @@
 // What a view takes of the known keys and of the cache.
 ghost use Rattle.std.specs.Prelude.{◌≡◌, ◌++◌, [], ◌∷◌, ◌&&◌, map, reverse, IfOk, OnOk};
 ghost use Rattle.std.specs.BTreeSet.{IsOrdered};
-ghost use Rattle.tsdb_types.specs.Series.{is_series_of};
-ghost use Rattle.point_model.specs.Conditions.{meets};
 ghost use Rattle.point_model.specs.Cursors.{Gives, key_cmp};
 ghost use Rattle.store_trait.specs.Lists.{lists_of};
 ghost use Rattle.live_points.specs.Held.{points_of};
@@ -70,7 +68,7 @@ fn gather(
 }
 
 fn is_needed(need: &Need, series: &SeriesKey) -> bool
-    ensures { result ≡ (is_series_of need.now.measurement series.now && meets need.now.tags series.now) }
+    ensures { result ≡ spec.is_needed need.now series.now }
 {
     series.is_of(&need.measurement) && need.tags.meets(series)
 }

@@ -9,5 +9,6 @@ mod kinds;
 mod names;
 mod points;
 mod samples;
+pub mod scratch;
 
 pub use points::LivePoints;

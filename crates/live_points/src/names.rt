@@ -6,7 +6,7 @@ ghost use Rattle.std.specs.List.Sorted.{IsStrictlySortedBy};
 ghost use Rattle.tsdb_types.specs.Series.{IsSeriesText};
 ghost use Rattle.store_trait.specs.Slots.{text_cmp};
 ghost use Rattle.store_trait.specs.Tags.{IsTagKeyOf, keys_within};
-ghost use Rattle.live_points.specs.Listed.{kinds_listed, kinds_of, listed, whole};
+ghost use Rattle.live_points.specs.Listed.{having_points, is_needed, kinds_listed, kinds_of, listed, whole};
 
 use crate::keys::Keys;
 use crate::kinds::kind_at;
@@ -15,7 +15,7 @@ use point_cache::PointCache;
 use point_model::Need;
 use std::alloc::{AllocError, Global};
 use store_trait::{Heading, add_tag_keys};
-use tsdb_types::{Kind, Name};
+use tsdb_types::{Kind, Name, SeriesKey};
 
 // The fields of a measurement that have points, with their kinds.
 pub(crate) fn fields_of(
@@ -83,11 +83,33 @@ fn all_tag_keys(
     let mut found = Vec::new(alloc);
     for (series, field) in keys {
         let _ = series.text();
-        if series.is_of(&need.measurement) {
-            if kind_at(cache, &mut buffer, series, field)?.is_some() {
-                add_tag_keys(alloc, series, &mut found)?;
-            }
+        if is_of_whole(need, series) {
+            add_key_tags(alloc, cache, &mut buffer, series, field, &mut found)?;
         }
     }
     Ok(found)
+}
+
+// The tag keys of a measurement are asked of all its series, whichever meet the condition.
+fn is_of_whole(need: &Need, series: &SeriesKey) -> bool
+    ensures { result ≡ is_needed (whole need.now) series.now }
+{
+    series.is_of(&need.measurement)
+}
+
+// The tag keys of a series, where this field of it has points.
+fn add_key_tags(
+    alloc: Global,
+    cache: &PointCache,
+    buffer: &mut Vec<u8>,
+    series: &SeriesKey,
+    field: &Name,
+    found: &mut Vec<Name>,
+) -> Result<(), AllocError>
+    ensures { OnOk result (found.new.items ≡ found.old.items ++ keys_within (having_points cache.now.runs (series.now, field.now))) }
+{
+    if kind_at(cache, buffer, series, field)?.is_some() {
+        add_tag_keys(alloc, series, found)?;
+    }
+    Ok(())
 }

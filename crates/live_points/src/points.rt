@@ -1,7 +1,7 @@
 // The points in memory.
 ghost use Rattle.std.specs.Prelude.{◌≡◌, All, IfOk, OnOk, OnErr, Some, None, length};
-ghost use Rattle.std.specs.List.{AllByRecursion};
 ghost use Rattle.tsdb_types.specs.Moments.{IsMoment};
+ghost use Rattle.point_model.specs.Acceptance.{IsCell};
 
 use crate::conflicts::find_conflict;
 use crate::gather::view_of;
@@ -14,7 +14,7 @@ use std::collections::{BTreeMap, BTreeSet};
 use std::hash::RandomState;
 use std::marker::Model;
 use store_trait::ListView;
-use tsdb_types::{Batch, Kind, Name, Point};
+use tsdb_types::{Batch, Cell, Kind, Name, Point};
 
 /// The points of an engine, in memory. A contract sees them, and the batch that there is room for.
 #[derive(Drop)]
@@ -133,11 +133,19 @@ impl LivePoints {
     }
 }
 
-// The type of a time knows that it is a moment.
+// The types of a cell know what it is.
 fn look_at(points: &[Point])
-    ensures { AllByRecursion (λ point. IsMoment point.cell.time) points.now }
+    ensures { All (λ point. IsCell point.cell) points.now }
 {
     for point in points {
-        let _ = point.cell.time.get();
+        look_at_cell(&point.cell);
     }
+}
+
+fn look_at_cell(cell: &Cell)
+    ensures { IsCell cell.now }
+{
+    let _ = cell.time.get();
+    let _ = cell.series.text();
+    let _ = cell.field.as_str();
 }

@@ -89,7 +89,7 @@ pub(crate) fn learn_columns(
     columns: &[Column],
 ) -> Result<(), AllocError>
     ensures keys { Learns columns.now keys.old keys.new }
-    ensures samples { Resamples cache.now.runs columns.now samples.old samples.new }
+    ensures samples { Resamples cache.now.runs columns.now keys.new samples.old samples.new }
     ensures known { OnOk result ((column : Column) → IsAmong columns.now column → IsKnown keys.new (key_of_column column)) }
     ensures sampled { OnOk result ((column : Column) → IsAmong columns.now column → IsSampled cache.now.runs columns.now samples.new column) }
 {
