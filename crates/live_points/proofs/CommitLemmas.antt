@@ -32,12 +32,30 @@ use Rattle.live_points.proofs.KnownLemmas.{cuts, some_kind_value, value_kind, va
 use Rattle.live_points.proofs.SetLemmas.{IsCutPoint, after_some, all_cut, point_key, points_set, set_after, some_after}
 
 -- the columns of a batch that may be written have keys that are cut where they were joined
-pub columns_marked : (batch : List Point) → IsWritable batch → (column : Column) → IsAmong (columns_of batch) column → IsFirstMark (composite (key_of_column column)) (length column.series)
+columns_marked : (batch : List Point) → IsWritable batch → (column : Column) → IsAmong (columns_of batch) column → IsFirstMark (composite (key_of_column column)) (length column.series)
 columns_marked batch writable column among =
     let of = of_columns batch among.0 column among.1 in
     let keyed : IsKeyed of.1 =
     subst IsKeyed (get_or_from_slice_get batch of.0 of.1 of.1 of.2) (writable.keyed of.0 of.1 (slice_get_within batch of.0 of.1 of.2)) in
     subst (λ (c : Column). IsFirstMark (composite (key_of_column c)) (length c.series)) of.3 keyed.marked
+
+pub marked_columns : (batch : List Point) → IsWritable batch → (columns : List Column) → columns ≡ columns_of batch
+    → (column : Column) → IsAmong columns column → IsFirstMark (composite (key_of_column column)) (length column.series)
+marked_columns batch writable columns are column among =
+    columns_marked batch writable column (subst (λ (cs : List Column). IsAmong cs column) are among)
+
+-- all is known of a batch whose columns are learned
+pub is_learned : (runs : List KeyRun) (keys : Keys) (samples : Samples) (batch : List Point) (columns : List Column) (points : List Point)
+    → IsWritable batch → columns ≡ columns_of batch → points ≡ batch → All (λ (p : Point). IsCell p.cell) points
+    → ((column : Column) → IsAmong columns column → IsKnown keys (key_of_column column))
+    → ((column : Column) → IsAmong columns column → IsSampled runs columns samples column)
+    → IsLearned runs keys samples batch
+is_learned runs keys samples batch columns points writable are same cells known sampled = record {
+  writable = writable;
+  cells = subst (λ (ps : List Point). All (λ (p : Point). IsCell p.cell) ps) same cells;
+  known = subst (λ (cs : List Column). (column : Column) → IsAmong cs column → IsKnown keys (key_of_column column)) are known;
+  sampled = subst (λ (cs : List Column). (column : Column) → IsAmong cs column → IsSampled runs cs samples column) are sampled;
+}
 
 module _ (runs : List KeyRun) (keys : Keys) (samples : Samples) (columns : List Column) (holds : Holds runs keys samples)
     (marked : (column : Column) → IsAmong columns column → IsFirstMark (composite (key_of_column column)) (length column.series)) where

@@ -233,3 +233,13 @@ module _ (runs : List KeyRun) (keys : Keys) (samples : Samples) (holds : Holds r
 
   pub listed_known : (key : Key) → In key (listed runs need keys.keys) → IsKnown keys key
   listed_known key m = in_known keys ordered key (listed_key runs need keys.keys key m).0
+
+text_in : (keys : List Key) → AllByRecursion (λ key. IsSeriesText key.0) keys → (key : Key) → In key keys → IsSeriesText key.0
+text_in [] texts key m = absurd m
+text_in (first ∷ keys) texts key m =
+    ⊎_elim (λ (same : first ≡ key). subst (λ (k : Key). IsSeriesText k.0) same texts.0) (λ (later : In key keys). text_in keys texts.1 key later) m
+
+-- the series of listed keys are keys of series
+pub listed_texts : (runs : List KeyRun) (need : Need) (keys : List Key) → AllByRecursion (λ key. IsSeriesText key.0) keys
+    → (series field : List ℕ) → In (series, field) (listed runs need keys) → IsSeriesText series
+listed_texts runs need keys texts series field m = text_in keys texts (series, field) (listed_key runs need keys (series, field) m).0
