@@ -1,34 +1,29 @@
 -- What holds beside a cache once a batch is learned, and once it is set.
-use Rattle.std.proofs.Common.{◌≡◌, ◌∙◌, ap, sym, refl, subst, inl, inr, ⊎_elim, ◌⊎◌, true, ℕ, length, ℤ, All, List, [], ◌∷◌, Option, Some, None, IsSome, is_some, option_and_then, slice_get, nat_eq}
-use Rattle.std.specs.Cmp.Lexicographic.{pointwise}
-use Rattle.std.specs.List.{AllByRecursion}
+use Rattle.std.proofs.Common.{◌≡◌, ◌∙◌, ap, sym, subst, ⊎_elim, true, ℕ, length, ℤ, All, List, Option, Some, None, IsSome, is_some, option_and_then, slice_get}
 use Rattle.std.specs.Ordering.{int_eq}
 use Rattle.std.proofs.lemmas.Bool.{false≢true}
 use Rattle.std.proofs.lemmas.Option.{slice_get_within, get_or_from_slice_get}
 use Rattle.tsdb_types.specs.Columns.{column_of, columns_of}
 use Rattle.tsdb_types.specs.Keys.{IsFirstMark}
 use Rattle.tsdb_types.specs.declared.column.Column.{Column}
-use Rattle.tsdb_types.specs.declared.point.Cell.{Cell}
 use Rattle.tsdb_types.specs.declared.point.Point.{Point}
 use Rattle.tsdb_types.specs.declared.value.Value.{Value}
 use Rattle.point_model.specs.Acceptance.{IsAccepted, IsCell, IsKeyed, IsStored, IsWritable}
 use Rattle.point_model.specs.Cursors.{Key}
 use Rattle.point_model.specs.Histories.{with_points}
 use Rattle.point_model.specs.Measurements.{measurement_head}
-use Rattle.point_model.specs.Points.{Points}
 use Rattle.point_model.proofs.FieldLemmas.{and_first}
-use Rattle.point_model.proofs.StoredLemmas.{all_among, stored-with}
+use Rattle.point_model.proofs.StoredLemmas.{stored-with}
 use Rattle.point_cache.specs.declared.key_points.KeyRun.{KeyRun}
 use Rattle.point_cache.specs.Cached as cached
 use Rattle.point_cache.specs.Cached.{AreRuns, value_after}
 use Rattle.point_cache.proofs.EntryLemmas.{same_key}
 use Rattle.live_points.specs.Held.{composite, cut, kind_at, points_of}
-use Rattle.live_points.specs.Known.{Holds, IsKnown, Keys, Samples, kind_in, kind_of_column, sample_of}
+use Rattle.live_points.specs.Known.{Holds, IsKnown, Keys, Samples, kind_in, sample_of}
 use Rattle.live_points.specs.Learned.{IsAmong, IsLearned, IsSampled, Learns, Resamples, key_of_column}
 use Rattle.live_points.proofs.ColumnLemmas.{all_places, in_columns, of_columns}
 use Rattle.live_points.proofs.CutLemmas.{cut_composite}
-use Rattle.live_points.proofs.HeldLemmas.{IsCut}
-use Rattle.live_points.proofs.KnownLemmas.{cuts, some_kind_value, value_kind, value_there}
+use Rattle.live_points.proofs.KnownLemmas.{cuts, some_kind_value, value_kind}
 use Rattle.live_points.proofs.SetLemmas.{IsCutPoint, after_some, all_cut, point_key, points_set, set_after, some_after}
 
 -- the columns of a batch that may be written have keys that are cut where they were joined
@@ -63,10 +58,10 @@ module _ (runs : List KeyRun) (keys : Keys) (samples : Samples) (columns : List 
   pub learned : (more : Keys) (taken : Samples) → Learns columns keys more → Resamples runs columns more samples taken → Holds runs more taken
   learned more taken learns resamples =
       let all_marked : (key : Key) → IsKnown more key → IsFirstMark (composite key) (length key.0) = λ key known.
-          ⊎_elim
-          (λ before. holds.marked key before)
-          (λ new. subst (λ (k : Key). IsFirstMark (composite k) (length k.0)) new.2 (marked new.0 new.1))
-          (learns.added key known) in
+      ⊎_elim
+      (λ before. holds.marked key before)
+      (λ new. subst (λ (k : Key). IsFirstMark (composite k) (length k.0)) new.2 (marked new.0 new.1))
+      (learns.added key known) in
       record {
         are_runs = holds.are_runs;
         stored = holds.stored;

@@ -1,23 +1,22 @@
 -- The samples find the conflicts of a batch with the points.
-use Rattle.std.proofs.Common.{◌≡◌, ◌∙◌, ap, sym, subst, refl, inl, inr, ⊎_elim, Bool, true, false, not, ◌&&◌, IsTrue, Option, Some, None, IsSome, is_some, List, [], ◌∷◌, ℕ}
+use Rattle.std.proofs.Common.{◌≡◌, ◌∙◌, ap, sym, subst, refl, inl, inr, ⊎_elim, Bool, true, false, not, ◌&&◌, IsTrue, Option, Some, None, is_some, List, [], ◌∷◌, ℕ}
 use Rattle.std.proofs.lemmas.Bool.{cases_Bool, cond-true, cond-false, false≢true}
-use Rattle.tsdb_types.specs.Columns.{column_of}
 use Rattle.tsdb_types.specs.Values.{kind_of}
 use Rattle.tsdb_types.specs.declared.point.Cell.{Cell}
 use Rattle.tsdb_types.specs.declared.point.Point.{Point}
 use Rattle.tsdb_types.specs.declared.value.Value.{Value}
 use Rattle.tsdb_types.specs.declared.value.Kind.{Kind}
 use Rattle.point_model.specs.Acceptance.{Conflict, conflict, conflict_before, other_kind, is_same_kind}
-use Rattle.point_model.specs.Cursors.{Key, cell_at}
+use Rattle.point_model.specs.Cursors.{cell_at}
 use Rattle.point_model.specs.Measurements.{measurement_head, is_same_field}
 use Rattle.point_model.specs.Points.{Points, value_at}
 use Rattle.point_model.proofs.FieldLemmas.{and_first, and_both, one_field, same_field}
 use Rattle.point_cache.specs.declared.key_points.KeyRun.{KeyRun}
 use Rattle.store_trait.proofs.ConflictLemmas.{Among, among_found, found_among, other_none}
-use Rattle.live_points.specs.Held.{kind_at, points_of}
-use Rattle.live_points.specs.Known.{Holds, Keys, Samples, conflict_in, kind_in, kind_of_column, unlike}
+use Rattle.live_points.specs.Held.{points_of}
+use Rattle.live_points.specs.Known.{Holds, Keys, Samples, conflict_in, kind_in, unlike}
 use Rattle.live_points.proofs.HeldLemmas.{sorted_points}
-use Rattle.live_points.proofs.KnownLemmas.{IsHeld, cell_of_kind, held, sample_key}
+use Rattle.live_points.proofs.KnownLemmas.{cell_of_kind, held, sample_key}
 
 -- the pair is one of the point's field, of another kind
 abbrev conflicts : Point → Cell × Value → Bool

@@ -1,6 +1,6 @@
 -- A composite key is cut where it was joined.
-use Rattle.std.proofs.Common.{◌≡◌, ◌∙◌, ap, sym, refl, ⊎_elim, ℕ, suc, ◌<◌, Bool, true, false, List, [], ◌∷◌, length, take, arith}
-use Rattle.std.proofs.lemmas.Bool.{cases_Bool, cond-true, cond-false}
+use Rattle.std.proofs.Common.{◌≡◌, ◌∙◌, ap, refl, ⊎_elim, ℕ, suc, true, false, List, [], ◌∷◌, length, take, arith}
+use Rattle.std.proofs.lemmas.Bool.{cases_Bool, cond-false}
 use Rattle.tsdb_types.specs.Keys.{mark, key_of, MarkAt, IsFirstMark}
 use Rattle.point_model.specs.Cursors.{Key}
 use Rattle.point_model.proofs.FieldLemmas.{text_same}

@@ -2,18 +2,16 @@
 use Rattle.std.proofs.Common.{◌≡◌, ◌∙◌, ap, sym, subst, ℕ, false, List, [], Option, None, option_and_then}
 use Rattle.std.specs.BTreeMap.{BTreeMap, get, is_at}
 use Rattle.std.specs.BTreeSet.{contains}
-use Rattle.std.specs.FinMap.Entries.{is_sorted}
 use Rattle.std.specs.List.{list_any}
 use Rattle.std.proofs.lemmas.Bool.{false≢true}
-use Rattle.tsdb_types.specs.declared.value.Kind.{Kind}
-use Rattle.point_model.specs.Acceptance.{IsSound, IsStored}
+use Rattle.point_model.specs.Acceptance.{IsStored}
 use Rattle.point_model.specs.Cursors.{Key, key_cmp}
-use Rattle.point_model.specs.Points.{Points, cell_cmp, no_points}
+use Rattle.point_model.specs.Points.{no_points}
 use Rattle.point_model.proofs.StoredLemmas.{all_among, none_some, test_sorted}
 use Rattle.point_cache.specs.declared.key_points.KeyRun.{KeyRun}
 use Rattle.store_trait.specs.Slots.{text_cmp}
 use Rattle.store_trait.proofs.MapLemmas.{nothing_in}
-use Rattle.live_points.specs.Known.{Holds, IsKnown, Keys, Samples, sample_of}
+use Rattle.live_points.specs.Known.{Holds, Keys, Samples, sample_of}
 
 none_stored : IsStored no_points
 none_stored = record {

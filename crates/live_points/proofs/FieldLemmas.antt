@@ -1,5 +1,5 @@
 -- The fields of a measurement, by their samples.
-use Rattle.std.proofs.Common.{◌≡◌, ◌∙◌, ap, sym, refl, subst, ⊎_elim, inl, inr, ℕ, IsTrue, List, [], ◌∷◌, Contains, Option, Some, None, IsSome, is_some, IfSome, option_and_then}
+use Rattle.std.proofs.Common.{◌≡◌, ◌∙◌, ap, sym, refl, subst, ⊎_elim, inl, inr, ℕ, IsTrue, List, [], ◌∷◌, Option, Some, None, IsSome, IfSome, option_and_then}
 use Rattle.std.specs.BTreeMap.{BTreeMap, get, IsOrdered}
 use Rattle.std.specs.Cmp.Lexicographic.{pointwise, nat_list_cmp_total}
 use Rattle.std.specs.Prelude.{nat_eq}
@@ -13,7 +13,7 @@ use Rattle.tsdb_types.specs.Values.{kind_of}
 use Rattle.tsdb_types.specs.declared.point.Cell.{Cell}
 use Rattle.tsdb_types.specs.declared.value.Value.{Value}
 use Rattle.tsdb_types.specs.declared.value.Kind.{Kind}
-use Rattle.point_model.specs.Cursors.{AreFields, Key, cell_at}
+use Rattle.point_model.specs.Cursors.{AreFields, cell_at}
 use Rattle.point_model.specs.Measurements.{measurement_head}
 use Rattle.point_model.specs.Points.{Points, value_at}
 use Rattle.point_model.specs.Rows.{is_of}

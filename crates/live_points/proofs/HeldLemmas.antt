@@ -1,12 +1,12 @@
 -- What the points that runs hold have at a cell, and how many they are.
-use Rattle.std.proofs.Common.{◌≡◌, ◌≢◌, ◌∙◌, ap, sym, refl, subst, inl, inr, ⊎_elim, ◌⊎◌, ℕ, suc, ◌+◌, ℤ, ◌<ℤ◌, Bool, true, false, cond, ◌&&◌, T, List, [], ◌∷◌, length, map, Option, Some, None, IsSome, is_some, nat_eq, arith, Ordering, Less, Equal, Greater}
-use Rattle.std.specs.BTreeMap.{insert_entry, is_at}
+use Rattle.std.proofs.Common.{◌≡◌, ◌≢◌, ◌∙◌, ap, sym, refl, ⊎_elim, ℕ, suc, ◌+◌, ℤ, ◌<ℤ◌, Bool, true, false, cond, ◌&&◌, T, List, [], ◌∷◌, length, map, Option, Some, None, nat_eq, arith, Ordering, Less, Equal, Greater}
+use Rattle.std.specs.BTreeMap.{is_at}
 use Rattle.std.specs.Cmp.{eq_by_cmp_equiv, int_cmp_total}
 use Rattle.std.specs.Cmp.Lexicographic.{pointwise, slice_cmp, nat_list_cmp_total}
 use Rattle.std.specs.FinMap.Entries.{is_sorted}
 use Rattle.std.specs.List.{AllByRecursion}
 use Rattle.std.specs.Option.{option_or}
-use Rattle.std.specs.Ordering.{int_cmp, int_eq, nat_cmp, is_eq, match_ordering}
+use Rattle.std.specs.Ordering.{int_eq, nat_cmp, is_eq, match_ordering}
 use Rattle.std.proofs.lemmas.Bool.{cases_Bool, cond-true, cond-false, false≢true}
 use Rattle.std.proofs.lemmas.Int.{ints}
 use Rattle.std.proofs.lemmas.List.Sums.{sum_by-append}
@@ -20,13 +20,13 @@ use Rattle.point_model.specs.Histories.{with_points}
 use Rattle.point_model.specs.Points.{Points, cell_cmp, is_same_cell, value_at, with_point}
 use Rattle.point_model.specs.Rows.{Row}
 use Rattle.point_model.proofs.EffectLemmas.{value_after_write}
-use Rattle.point_model.proofs.PointLemmas.{cell_test, cell_exact, cell_total, sorted-with_points, value_at-with_point}
+use Rattle.point_model.proofs.PointLemmas.{cell_test, cell_exact, sorted-with_points, value_at-with_point}
 use Rattle.point_model.proofs.StoredLemmas.{none_some}
 use Rattle.point_cache.specs.declared.key_points.KeyRun.{KeyRun}
 use Rattle.point_cache.specs.Cached as cached
 use Rattle.point_cache.specs.Cached.{AreApart, AreAscending, IsRun, count, later, latest, points_at}
 use Rattle.point_cache.proofs.EntryLemmas.{same_key, key_same}
-use Rattle.point_cache.proofs.LatestLemmas.{same_time, time_same}
+use Rattle.point_cache.proofs.LatestLemmas.{same_time}
 use Rattle.live_points.specs.Held.{before_mark, behind_mark, composite, cut, point_of, points_of}
 
 -- the key of the run is cut where it was joined
@@ -108,8 +108,8 @@ held_value (run ∷ runs) cuts apart key own time =
     ∙ sym (ap (λ (rows : List Row). latest rows time) (cond-true (pointwise nat_eq (composite key) run.key) run.points (points_at runs (composite key)) e)))
     (λ (e : pointwise nat_eq (composite key) run.key ≡ false).
     let apart_cell : cell_at key time ≢ cell_at (cut run.key) time = λ same.
-        let keys : key ≡ cut run.key = ap (λ (c : Cell). (c.series, c.field)) same in
-        false≢true (sym e ∙ key_same (composite key) run.key (ap composite keys ∙ cuts.0)) in
+    let keys : key ≡ cut run.key = ap (λ (c : Cell). (c.series, c.field)) same in
+    false≢true (sym e ∙ key_same (composite key) run.key (ap composite keys ∙ cuts.0)) in
     ap (λ (w : Effect). applied w (value_at (points_of runs) (cell_at key time))) (other_rows run.key (cell_at key time) run.points apart_cell)
     ∙ held_value runs cuts.1 apart.1 key own time
     ∙ sym (ap (λ (rows : List Row). latest rows time) (cond-false (pointwise nat_eq (composite key) run.key) run.points (points_at runs (composite key)) e)))
@@ -121,8 +121,8 @@ pub none_elsewhere : (runs : List KeyRun) → AllByRecursion IsCut runs → (cel
 none_elsewhere [] cuts cell elsewhere = refl
 none_elsewhere (run ∷ runs) cuts cell elsewhere =
     let apart_cell : cell ≢ cell_at (cut run.key) cell.time = λ same.
-        let keys : (cell.series, cell.field) ≡ cut run.key = ap (λ (c : Cell). (c.series, c.field)) same in
-        elsewhere (ap (λ (k : Key). cut (composite k)) keys ∙ ap cut cuts.0 ∙ sym keys) in
+    let keys : (cell.series, cell.field) ≡ cut run.key = ap (λ (c : Cell). (c.series, c.field)) same in
+    elsewhere (ap (λ (k : Key). cut (composite k)) keys ∙ ap cut cuts.0 ∙ sym keys) in
     value_after_write (points_of runs) (map (point_of run.key) run.points) cell
     ∙ ap (λ (w : Effect). applied w (value_at (points_of runs) cell)) (other_rows run.key cell run.points apart_cell)
     ∙ none_elsewhere runs cuts.1 cell elsewhere
@@ -159,8 +159,8 @@ still_absent bytes points first (row ∷ rows) low none =
     (λ (e : int_eq first.0 row.0 ≡ false). e)
     (cases_Bool (int_eq first.0 row.0)) in (
       value_at-with_point points (point_of bytes first) (cell_at (cut bytes) row.0)
-      ∙ cond-false (is_at (cell_cmp (point_of bytes first).cell) (cell_at (cut bytes) row.0)) (Some first.1) (value_at points (cell_at (cut bytes) row.0)) (own_cell bytes row.0 first ∙ apart)
-      ∙ none.0,
+          ∙ cond-false (is_at (cell_cmp (point_of bytes first).cell) (cell_at (cut bytes) row.0)) (Some first.1) (value_at points (cell_at (cut bytes) row.0)) (own_cell bytes row.0 first ∙ apart)
+          ∙ none.0,
       still_absent bytes points first rows low.1 none.1,
     )
 
@@ -180,8 +180,8 @@ pub held_count : (runs : List KeyRun) → AllByRecursion IsCut runs → AllByRec
 held_count [] cuts each apart = refl
 held_count (run ∷ runs) cuts each apart =
     let none : (time : ℤ) → value_at (points_of runs) (cell_at (cut run.key) time) ≡ None = λ time.
-        held_value runs cuts.1 apart.1 (cut run.key) (ap cut cuts.0) time
-        ∙ ap (λ (rows : List Row). latest rows time) (ap (λ (bytes : List ℕ). points_at runs bytes) cuts.0 ∙ points_apart run.key runs apart.0) in
+    held_value runs cuts.1 apart.1 (cut run.key) (ap cut cuts.0) time
+    ∙ ap (λ (rows : List Row). latest rows time) (ap (λ (bytes : List ℕ). points_at runs bytes) cuts.0 ∙ points_apart run.key runs apart.0) in
     let more = rows_more run.key run.points (points_of runs) each.0.ascending (all_absent run.key run.points (points_of runs) none) in
     let rest = held_count runs cuts.1 each.1 apart.1 in
     let counted : count (run ∷ runs) ≡ (0 + length run.points) + count runs = sum_by-append (λ (r : KeyRun). length r.points) (run ∷ []) runs in

@@ -1,7 +1,7 @@
 -- The keys and rows that are taken of the known keys and of the runs are those of the points.
 use Rattle.std.proofs.Common.{◌≡◌, ◌∙◌, ap, sym, refl, subst, ⊎_elim, inl, inr, ◌&&◌, ◌++◌, ℕ, ℤ, Bool, true, false, cond, T, List, [], ◌∷◌, map, Option, Some, None, IsSome, is_some, Ordering, Less, Equal, Greater, ◌<ℤ◌, arith}
 use Rattle.std.specs.BTreeSet.{IsOrdered}
-use Rattle.std.specs.Cmp.{IsTotalOrder, then_total, on_total, int_cmp_total, eq_by_cmp_equiv}
+use Rattle.std.specs.Cmp.{IsTotalOrder, then_total, on_total, int_cmp_total}
 use Rattle.std.specs.Cmp.Lexicographic.{slice_cmp, nat_list_cmp_total}
 use Rattle.std.specs.FinMap.Entries.{find, is_sorted, below_all, same_entries}
 use Rattle.std.specs.List.{AllByRecursion}
@@ -11,16 +11,13 @@ use Rattle.std.proofs.lemmas.Bool.{cases_Bool, cond-true, cond-false, false≢tr
 use Rattle.std.proofs.lemmas.Int.{ints}
 use Rattle.std.proofs.lemmas.Map.Lookups.{CmpEqualImpliesEq, exact_bytes, exact_signed}
 use Rattle.std.proofs.lemmas.Map.Views.{btree_set_contains_iff}
-use Rattle.tsdb_types.specs.Series.{is_series_of, IsSeriesText}
+use Rattle.tsdb_types.specs.Series.{IsSeriesText}
 use Rattle.tsdb_types.specs.declared.value.Value.{Value}
-use Rattle.tsdb_types.specs.declared.value.Kind.{Kind}
 use Rattle.point_model.specs.declared.need.Need.{Need}
-use Rattle.point_model.specs.Conditions.{meets}
 use Rattle.point_model.specs.Cursors.{Key, key_cmp, cell_at, in_order, rows_between, rows_needed, AreKeys}
 use Rattle.point_model.specs.Points.{Points, value_at}
 use Rattle.point_model.specs.Rows.{Row}
 use Rattle.point_cache.specs.declared.key_points.KeyRun.{KeyRun}
-use Rattle.point_cache.specs.Cached as cached
 use Rattle.point_cache.specs.Cached.{AreAscending, is_within, later, latest, points_at, rows_within}
 use Rattle.point_cache.proofs.LatestLemmas.{same_time}
 use Rattle.point_cache.proofs.OrderLemmas.{ascending-filter}

@@ -1,7 +1,7 @@
 -- The kind of a point's column is found at its place.
-use Rattle.std.proofs.Common.{◌≡◌, ◌∙◌, ap, sym, refl, subst, ℕ, zero, suc, ◌+◌, ◌<◌, List, [], ◌∷◌, map, drop, length, Option, Some, None, option_map, slice_get, slice_index_or, arith}
+use Rattle.std.proofs.Common.{◌≡◌, ◌∙◌, ap, sym, refl, ℕ, zero, suc, ◌+◌, ◌<◌, List, [], ◌∷◌, map, drop, length, Option, Some, None, option_map, slice_get, slice_index_or, arith}
 use Rattle.std.proofs.lemmas.Option.{slice_get-map}
-use Rattle.tsdb_types.specs.Columns.{column_of, columns_of}
+use Rattle.tsdb_types.specs.Columns.{column_of}
 use Rattle.tsdb_types.specs.Values.{kind_of}
 use Rattle.tsdb_types.specs.declared.column.Column.{Column}
 use Rattle.tsdb_types.specs.declared.point.Point.{Point}

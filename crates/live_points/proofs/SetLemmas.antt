@@ -1,6 +1,5 @@
 -- The points that a cache holds once a batch is set are the points with the batch.
-use Rattle.std.proofs.Common.{◌≡◌, ◌≢◌, ◌∙◌, ap, sym, refl, subst, inl, inr, ⊎_elim, ◌⊎◌, ℕ, zero, suc, ℤ, Bool, true, false, cond, ◌&&◌, List, [], ◌∷◌, Option, Some, None, IsSome, is_some, slice_get, nat_eq}
-use Rattle.std.specs.BTreeMap.{is_at}
+use Rattle.std.proofs.Common.{◌≡◌, ◌≢◌, ◌∙◌, ap, sym, refl, subst, inl, inr, ⊎_elim, ◌⊎◌, ℕ, zero, suc, ℤ, Bool, true, false, cond, List, [], ◌∷◌, Option, Some, None, IsSome, is_some, slice_get, nat_eq}
 use Rattle.std.specs.Cmp.{eq_by_cmp_equiv}
 use Rattle.std.specs.Cmp.Lexicographic.{pointwise}
 use Rattle.std.specs.List.{AllByRecursion}
@@ -14,7 +13,7 @@ use Rattle.tsdb_types.specs.declared.value.Value.{Value}
 use Rattle.point_model.specs.Cursors.{Key, cell_at}
 use Rattle.point_model.specs.Effects.{Effect, applied, set_by, written}
 use Rattle.point_model.specs.Histories.{with_points}
-use Rattle.point_model.specs.Points.{Points, cell_cmp, is_same_cell, value_at}
+use Rattle.point_model.specs.Points.{is_same_cell, value_at}
 use Rattle.point_model.specs.Rows.{Row}
 use Rattle.point_model.proofs.EffectLemmas.{applied_or, value_after_write}
 use Rattle.point_model.proofs.FieldLemmas.{and_first, and_second, and_both}
@@ -188,10 +187,10 @@ all_cut (run ∷ runs) each cuts =
     let own : IsCut run = cuts run.key here.0 (subst (λ (rows : List Row). IsSome (latest rows here.0)) (sym chosen_rows) here.1) in (
       own,
       all_cut runs each.1 (λ bytes time some.
-      ⊎_elim
-      (λ (e : pointwise nat_eq bytes run.key ≡ true). subst (λ (b : List ℕ). composite (cut b) ≡ b) (sym (same_key bytes run.key e)) own)
-      (λ (e : pointwise nat_eq bytes run.key ≡ false).
-      cuts bytes time
-      (subst (λ (rows : List Row). IsSome (latest rows time)) (sym (cond-false (pointwise nat_eq bytes run.key) run.points (points_at runs bytes) e)) some))
-      (cases_Bool (pointwise nat_eq bytes run.key))),
+          ⊎_elim
+          (λ (e : pointwise nat_eq bytes run.key ≡ true). subst (λ (b : List ℕ). composite (cut b) ≡ b) (sym (same_key bytes run.key e)) own)
+          (λ (e : pointwise nat_eq bytes run.key ≡ false).
+          cuts bytes time
+          (subst (λ (rows : List Row). IsSome (latest rows time)) (sym (cond-false (pointwise nat_eq bytes run.key) run.points (points_at runs bytes) e)) some))
+          (cases_Bool (pointwise nat_eq bytes run.key))),
     )

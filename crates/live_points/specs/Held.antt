@@ -1,9 +1,8 @@
 -- Which points do the runs of a cache hold?
-use Rattle.std.specs.Prelude.{ℕ, ℤ, Bool, nat_eq, List, [], ◌∷◌, map, take, drop, Option, Some, None, if◌then◌else◌}
+use Rattle.std.specs.Prelude.{ℕ, Bool, nat_eq, List, [], ◌∷◌, map, take, drop, Option, Some, None, if◌then◌else◌}
 use Rattle.std.specs.Cmp.Lexicographic.{pointwise}
 use Rattle.tsdb_types.specs.Keys.{mark, key_of}
 use Rattle.tsdb_types.specs.Values.{kind_of}
-use Rattle.tsdb_types.specs.declared.point.Cell.{Cell}
 use Rattle.tsdb_types.specs.declared.point.Point.{Point}
 use Rattle.tsdb_types.specs.declared.value.Kind.{Kind}
 use Rattle.point_model.specs.Cursors.{Key}

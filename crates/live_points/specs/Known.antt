@@ -1,5 +1,5 @@
 -- Which keys are known beside a cache, and how is the kind of a field found by them?
-use Rattle.std.specs.Prelude.{◌≡◌, ℕ, ℤ, length, true, List, [], ◌∷◌, Option, Some, None, IsSome, IsTrue, if◌then◌else◌}
+use Rattle.std.specs.Prelude.{◌≡◌, ℕ, ℤ, length, List, [], ◌∷◌, Option, Some, None, IsSome, IsTrue, if◌then◌else◌}
 use Rattle.std.specs.BTreeMap.{BTreeMap, get}
 use Rattle.std.specs.BTreeSet.{BTreeSet, contains}
 use Rattle.std.specs.Option.{option_and_then}

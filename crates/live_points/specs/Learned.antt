@@ -1,5 +1,5 @@
 -- What is made known of a batch before it is set?
-use Rattle.std.specs.Prelude.{◌≡◌, ◌⊎◌, ℕ, Bool, true, List, All, Option, Some, None, IsSome, slice_get, if◌then◌else◌}
+use Rattle.std.specs.Prelude.{◌≡◌, ◌⊎◌, ℕ, Bool, List, All, Option, Some, None, IsSome, slice_get, if◌then◌else◌}
 use Rattle.tsdb_types.specs.Columns.{columns_of}
 use Rattle.tsdb_types.specs.declared.column.Column.{Column}
 use Rattle.tsdb_types.specs.declared.point.Point.{Point}

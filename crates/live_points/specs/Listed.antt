@@ -1,5 +1,5 @@
 -- What does a view take of the known keys and of the runs?
-use Rattle.std.specs.Prelude.{◌≡◌, ℕ, Bool, true, false, ◌&&◌, is_some, IsTrue, List, [], ◌∷◌, ◌++◌, map, filter, Option, Some, None, if◌then◌else◌}
+use Rattle.std.specs.Prelude.{ℕ, Bool, ◌&&◌, is_some, List, [], ◌∷◌, ◌++◌, Option, Some, None, if◌then◌else◌}
 use Rattle.std.specs.BTreeMap.{BTreeMap, get}
 use Rattle.std.specs.Option.{option_map_or}
 use Rattle.tsdb_types.specs.Series.{is_series_of}
@@ -11,9 +11,8 @@ use Rattle.point_model.specs.Rows.{Row}
 use Rattle.point_cache.specs.declared.key_points.KeyRun.{KeyRun}
 use Rattle.point_cache.specs.Cached.{points_at, rows_within}
 use Rattle.store_trait.specs.Slots.{text_cmp}
-use Rattle.store_trait.specs.Tags.{keys_in}
 use Rattle.live_points.specs.Held.{composite, kind_at}
-use Rattle.live_points.specs.Known.{Keys, Samples}
+use Rattle.live_points.specs.Known.{Samples}
 
 -- the need asks for the series
 abbrev pub is_needed : Need → List ℕ → Bool

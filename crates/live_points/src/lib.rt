@@ -9,6 +9,5 @@ mod kinds;
 mod names;
 mod points;
 mod samples;
-pub mod scratch;
 
 pub use points::LivePoints;

@@ -1,12 +1,11 @@
 -- Each point is compared with the kind of its column.
-use Rattle.std.proofs.Common.{◌≡◌, ◌∙◌, ap, sym, ℕ, List, Option, Some, None, map, slice_get}
+use Rattle.std.proofs.Common.{◌≡◌, ◌∙◌, ap, sym, Option, Some, map, slice_get}
 use Rattle.std.proofs.lemmas.Option.{get_or_from_slice_get, slice_get-get_or}
 use Rattle.tsdb_types.specs.Columns.{column_of, columns_of}
 use Rattle.tsdb_types.specs.Values.{kind_of}
 use Rattle.tsdb_types.specs.declared.point.Point.{Point}
 use Rattle.tsdb_types.specs.declared.value.Kind.{Kind}
-use Rattle.point_model.specs.Acceptance.{Conflict, conflict_before}
-use Rattle.live_points.specs.Known.{conflict_in, kind_of_column, unlike}
+use Rattle.live_points.specs.Known.{kind_of_column, unlike}
 use Rattle.live_points.proofs.PlaceLemmas.{kind_at_place, no_conflict, some_conflict}
 use Rattle.live_points.proofs.conflicts.find_conflict.Goals as goal
 

@@ -1,5 +1,5 @@
 -- The place of a point is that of its column.
-use Rattle.std.proofs.Common.{◌≡◌, ◌<◌, length, subst, sym, None, slice_index_or}
+use Rattle.std.proofs.Common.{◌<◌, subst, sym, None, slice_index_or}
 use Rattle.std.proofs.lemmas.Option.{slice_get_within, slice_get-get_or}
 use Rattle.tsdb_types.specs.Columns.{column_of, columns_of}
 use Rattle.live_points.proofs.PlaceLemmas.{place_is, point_at}

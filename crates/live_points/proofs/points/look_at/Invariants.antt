@@ -1,5 +1,5 @@
 -- The points so far have cells.
-use Rattle.std.proofs.Common.{◌<◌, ℕ, length, get_or}
+use Rattle.std.proofs.Common.{◌<◌, ℕ, get_or}
 use Rattle.tsdb_types.specs.declared.point.Point.{Point}
 use Rattle.point_model.specs.Acceptance.{IsCell}
 use Rattle.live_points.proofs.points.look_at.Given as goal

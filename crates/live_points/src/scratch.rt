@@ -1,5 +1,0 @@
-ghost use Rattle.std.specs.Prelude.{⊤};
-
-pub fn scratch()
-    ensures { ⊤ }
-{}
