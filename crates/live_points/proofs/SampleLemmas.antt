@@ -1,14 +1,15 @@
 -- What the learning of columns leaves of the keys and of the samples.
-use Rattle.std.proofs.Common.{◌≡◌, ◌∙◌, ap, sym, subst, refl, inl, inr, ⊎_elim, ◌⊎◌, Bool, true, false, cond, ◌&&◌, Option, Some, None, IsSome, List, ℕ, ◌<◌, slice_get, option_and_then, Result, OnOk, OnErr, length, get_or}
+use Rattle.std.proofs.Common.{◌≡◌, ◌∙◌, ap, sym, subst, refl, inl, inr, ⊎_elim, ◌⊎◌, Bool, true, false, cond, ◌&&◌, Option, Some, None, IsSome, is_some, List, ℕ, ◌<◌, slice_get, option_and_then, Result, OnOk, OnErr, length, get_or}
 use Rattle.std.specs.BTreeMap.{is_at}
 use Rattle.std.specs.BTreeSet.{Updates, contains}
 use Rattle.std.specs.List.{list_any}
 use Rattle.std.proofs.lemmas.Option.{slice_get-get_or}
 use Rattle.std.specs.Cmp.{eq_by_cmp_equiv}
 use Rattle.std.specs.Cmp.Lexicographic.{nat_list_cmp_total}
-use Rattle.std.proofs.lemmas.Bool.{cases_Bool, cond-true, cond-false}
+use Rattle.std.proofs.lemmas.Bool.{cases_Bool, cond-true, cond-false, false≢true}
 use Rattle.std.proofs.lemmas.Map.Lookups.{exact_bytes}
 use Rattle.std.proofs.lemmas.Map.Views.{tells_apart}
+use Rattle.tsdb_types.specs.Keys.{IsFirstMark}
 use Rattle.tsdb_types.specs.declared.column.Column.{Column}
 use Rattle.tsdb_types.specs.declared.value.Kind.{Kind}
 use Rattle.point_model.specs.Cursors.{Key, key_cmp}
@@ -17,9 +18,11 @@ use Rattle.point_model.proofs.FieldLemmas.{and_first, and_second}
 use Rattle.point_cache.specs.declared.key_points.KeyRun.{KeyRun}
 use Rattle.store_trait.specs.Slots.{text_cmp}
 use Rattle.store_trait.proofs.ResultLemmas.{by_result}
-use Rattle.live_points.specs.Held.{kind_at}
-use Rattle.live_points.specs.Known.{IsKnown, Keys, Samples, kind_in, sample_of}
-use Rattle.live_points.specs.Learned.{Adds, IsAmong, IsSampled, Learns, Resamples, SamplesOne, key_of_column}
+use Rattle.live_points.specs.Held.{composite, kind_at}
+use Rattle.live_points.specs.Known.{Holds, IsKnown, Keys, Samples, kind_in, kind_of_column, sample_of}
+use Rattle.live_points.specs.Learned.{Adds, IsAmong, IsLearnedWhere, IsSampled, Learns, Resamples, SamplesKnown, SamplesOne, key_of_column}
+use Rattle.live_points.proofs.CutLemmas.{cut_composite}
+use Rattle.live_points.proofs.KnownLemmas.{some_kind_value}
 use Rattle.live_points.proofs.ListedLemmas.{key_exact, key_total}
 
 -- ---- keys
@@ -107,18 +110,22 @@ pub resamples_keys : (runs : List KeyRun) (columns : List Column) (keys more : K
 resamples_keys runs columns keys more old new kept resamples m f =
     ⊎_elim (λ same. inl same) (λ put. inr (put.0, put.1, put.2, put.3, put.4, put.5, kept (key_of_column put.1) put.6)) (resamples m f)
 
+-- a column whose key is known took what was taken
+pub samples_known : (runs : List KeyRun) (column : Column) (keys : Keys) (old new : Samples) → IsKnown keys (key_of_column column) → SamplesOne runs column old new → SamplesKnown runs column keys old new
+samples_known runs column keys old new known one m f = ⊎_elim (λ same. inl same) (λ put. inr (put.0, put.1, put.2, put.3, known)) (one m f)
+
 -- one step more
-pub resample_step : (runs : List KeyRun) (columns : List Column) (keys : Keys) (old mid new : Samples) (column : Column) → IsAmong columns column → IsKnown keys (key_of_column column)
-    → Resamples runs columns keys old mid → SamplesOne runs column mid new → Resamples runs columns keys old new
-resample_step runs columns keys old mid new column there known first one m f =
+pub resample_step : (runs : List KeyRun) (columns : List Column) (keys : Keys) (old mid new : Samples) (column : Column) → IsAmong columns column
+    → Resamples runs columns keys old mid → SamplesKnown runs column keys mid new → Resamples runs columns keys old new
+resample_step runs columns keys old mid new column there first one m f =
     ⊎_elim
     (λ same. ⊎_elim (λ before. inl (same ∙ before)) (λ taken. inr (taken.0, taken.1, taken.2, same ∙ taken.3, taken.4, taken.5, taken.6)) (first m f))
-    (λ put. inr (⊎_elim (λ before. sym (kind_same runs old mid m f before) ∙ put.0) (λ taken. taken.0) (first m f), column, there, put.1, put.2, put.3, known))
+    (λ put. inr (⊎_elim (λ before. sym (kind_same runs old mid m f before) ∙ put.0) (λ taken. taken.0) (first m f), column, there, put.1, put.2, put.3, put.4))
     (one m f)
 
-pub sampled_step : (runs : List KeyRun) (columns : List Column) (mid new : Samples) (column other : Column) → IsAmong columns column
-    → IsSampled runs columns mid other → SamplesOne runs column mid new → IsSampled runs columns new other
-sampled_step runs columns mid new column other there before one =
+pub sampled_step : (runs : List KeyRun) (columns : List Column) (keys : Keys) (mid new : Samples) (column other : Column) → IsAmong columns column
+    → IsSampled runs columns mid other → SamplesKnown runs column keys mid new → IsSampled runs columns new other
+sampled_step runs columns keys mid new column other there before one =
     let m = measurement_head other.series in
     let f = other.field in
     ⊎_elim
@@ -130,13 +137,25 @@ sampled_step runs columns mid new column other there before one =
     (λ put. inr (column, there, put.1, put.3))
     (one m f)
 
-pub sampled_now : (runs : List KeyRun) (columns : List Column) (new : Samples) (column : Column) (heading : List ℕ) → IsAmong columns column → heading ≡ measurement_head column.series
-    → (IsSome (kind_in runs new heading column.field) ⊎ (sample_of new heading column.field ≡ Some column.series)) → IsSampled runs columns new column
-sampled_now runs columns new column heading there at known =
-    subst
-    (λ (m : List ℕ). (IsSome (kind_in runs new m column.field) ⊎ ((other : Column) × IsAmong columns other × (sample_of new m column.field ≡ Some other.series) × (other.field ≡ column.field))))
-    at
-    (⊎_elim (λ has. inl has) (λ put. inr (column, there, put, refl)) known)
+pub sampled_now : (runs : List KeyRun) (columns : List Column) (new : Samples) (column : Column) → IsAmong columns column
+    → (IsSome (kind_of_column runs new column) ⊎ (sample_of new (measurement_head column.series) column.field ≡ Some column.series)) → IsSampled runs columns new column
+sampled_now runs columns new column there known = ⊎_elim (λ has. inl has) (λ put. inr (column, there, put, refl)) known
+
+-- a column with points was known and sampled before the columns that were learned, and is
+pub learned_where : (runs : List KeyRun) (columns : List Column) (keys more : Keys) (samples taken : Samples) → Holds runs keys samples → (column : Column)
+    → IsFirstMark (composite (key_of_column column)) (length column.series) → Learns columns keys more → Resamples runs columns more samples taken → IsLearnedWhere runs more taken column
+learned_where runs columns keys more samples taken holds column marked learns resamples some =
+    let key = key_of_column column in
+    let value = some_kind_value runs key some in
+    let known : IsKnown keys key = subst (λ (k : Key). IsKnown keys k) (cut_composite key marked) (holds.known (composite key) value.0 value.1).0 in
+    let had = holds.sampled key known some in
+    let m = measurement_head column.series in (
+      learns.kept key known,
+      ⊎_elim
+          (λ (same : sample_of taken m column.field ≡ sample_of samples m column.field). subst (λ (o : Option Kind). IsSome o) (sym (kind_same runs samples taken m column.field same)) had)
+          (λ put. absurd (false≢true (sym (ap is_some put.0) ∙ had)))
+          (resamples m column.field),
+    )
 
 -- the item of a loop over a list
 pub item_at : (columns : List Column) (i : ℕ) (item : Column) → i < length columns → item ≡ get_or columns i item → slice_get columns i ≡ Some item

@@ -7,6 +7,7 @@ use Rattle.point_model.specs.Acceptance.{IsCell, IsWritable}
 use Rattle.point_model.specs.Cursors.{Key}
 use Rattle.point_model.specs.Measurements.{measurement_head}
 use Rattle.point_cache.specs.declared.key_points.KeyRun.{KeyRun}
+use Rattle.live_points.specs.Held.{kind_at}
 use Rattle.live_points.specs.Known.{Keys, Samples, IsKnown, kind_in, kind_of_column, sample_of}
 
 -- the column is one of these
@@ -33,6 +34,19 @@ SamplesOne runs column old new =
     → (sample_of new measurement field ≡ sample_of old measurement field)
     ⊎ ((kind_in runs old measurement field ≡ None) × (sample_of new measurement field ≡ Some column.series)
     × (measurement_head column.series ≡ measurement) × (column.field ≡ field))
+
+-- The same, and the column is known where its series was taken.
+abbrev pub SamplesKnown : List KeyRun → Column → Keys → Samples → Samples → Type 0
+SamplesKnown runs column keys old new =
+    (measurement field : List ℕ)
+    → (sample_of new measurement field ≡ sample_of old measurement field)
+    ⊎ ((kind_in runs old measurement field ≡ None) × (sample_of new measurement field ≡ Some column.series)
+    × (measurement_head column.series ≡ measurement) × (column.field ≡ field) × IsKnown keys (key_of_column column))
+
+-- where the column has points it is known, and its field has a sample with points
+abbrev pub IsLearnedWhere : List KeyRun → Keys → Samples → Column → Type 0
+IsLearnedWhere runs keys samples column =
+    IsSome (kind_at runs (key_of_column column)) → IsKnown keys (key_of_column column) × IsSome (kind_of_column runs samples column)
 
 -- The samples are as they were but for fields without points, which may have the series of one of these columns that is known.
 abbrev pub Resamples : List KeyRun → List Column → Keys → Samples → Samples → Type 0

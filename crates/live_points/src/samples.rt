@@ -1,14 +1,16 @@
 // For each field of a measurement a series of it, by which the kind of the field is found.
-ghost use Rattle.std.specs.Prelude.{◌≡◌, ◌⊎◌, ◌&&◌, ℕ, List, cond, Some, IsSome, OnOk, OnErr};
+ghost use Rattle.std.specs.Prelude.{◌≡◌, ◌⊎◌, ◌&&◌, ℕ, List, cond, length, Some, IsSome, OnOk, OnErr};
 ghost use Rattle.std.specs.BTreeMap.{get, is_at};
+ghost use Rattle.tsdb_types.specs.Keys.{IsFirstMark};
 ghost use Rattle.tsdb_types.specs.declared.column.Column.{Column};
 ghost use Rattle.point_model.specs.Measurements.{measurement_head};
 ghost use Rattle.store_trait.specs.Slots.{text_cmp};
-ghost use Rattle.live_points.specs.Known.{IsKnown, kind_in, sample_of};
-ghost use Rattle.live_points.specs.Learned.{IsAmong, IsSampled, Learns, Resamples, SamplesOne, key_of_column};
+ghost use Rattle.live_points.specs.Held.{composite};
+ghost use Rattle.live_points.specs.Known.{Holds, IsKnown, kind_in, kind_of_column, sample_of};
+ghost use Rattle.live_points.specs.Learned.{Adds, IsAmong, IsLearnedWhere, IsSampled, Learns, Resamples, SamplesKnown, SamplesOne, key_of_column};
 
 use crate::keys::{Keys, add_key};
-use crate::kinds::kind_of_field;
+use crate::kinds::{kind_at, kind_of_field};
 use point_cache::PointCache;
 use std::alloc::{AllocError, Global};
 use std::collections::BTreeMap;
@@ -80,6 +82,31 @@ fn take_sample(
     put_sample(alloc, samples, heading, column)
 }
 
+// Makes a column known, and sees to it that its field has a sample. A column with points is known and sampled already.
+fn learn_column(
+    alloc: Global,
+    cache: &PointCache,
+    keys: &mut Keys,
+    samples: &mut Samples,
+    heading: &mut Heading,
+    buffer: &mut Vec<u8>,
+    column: &Column,
+) -> Result<(), AllocError>
+    requires { IsLearnedWhere cache.now.runs keys.old samples.old column.now }
+    ensures adds { Adds (key_of_column column.now) keys.old keys.new }
+    ensures kept { SamplesKnown cache.now.runs column.now keys.new samples.old samples.new }
+    ensures known { OnOk result (IsKnown keys.new (key_of_column column.now)) }
+    ensures sampled { OnOk result (IsSome (kind_of_column cache.now.runs samples.new column.now)
+        ⊎ (sample_of samples.new (measurement_head column.now.series) column.now.field ≡ Some column.now.series)) }
+{
+    if kind_at(cache, buffer, &column.series, &column.field)?.is_some() {
+        return Ok(());
+    }
+    add_key(keys, column)?;
+    heading.read(&column.series)?;
+    take_sample(alloc, cache, samples, heading, buffer, column)
+}
+
 // Makes the columns known, and sees to it that the field of each has a sample, which has points or is a series of these columns.
 pub(crate) fn learn_columns(
     alloc: Global,
@@ -88,6 +115,8 @@ pub(crate) fn learn_columns(
     samples: &mut Samples,
     columns: &[Column],
 ) -> Result<(), AllocError>
+    requires holds { Holds cache.now.runs keys.old samples.old }
+    requires marked { (column : Column) → IsAmong columns.now column → IsFirstMark (composite (key_of_column column)) (length column.series) }
     ensures keys { Learns columns.now keys.old keys.new }
     ensures samples { Resamples cache.now.runs columns.now keys.new samples.old samples.new }
     ensures known { OnOk result ((column : Column) → IsAmong columns.now column → IsKnown keys.new (key_of_column column)) }
@@ -96,9 +125,15 @@ pub(crate) fn learn_columns(
     let mut heading = Heading::new(alloc);
     let mut buffer = Vec::new(alloc);
     for column in columns {
-        add_key(keys, column)?;
-        heading.read(&column.series)?;
-        take_sample(alloc, cache, samples, &heading, &mut buffer, column)?;
+        learn_column(
+            alloc,
+            cache,
+            keys,
+            samples,
+            &mut heading,
+            &mut buffer,
+            column,
+        )?;
     }
     Ok(())
 }

@@ -5,44 +5,33 @@ use borrow.Author.Count.{below_more}
 use Rattle.tsdb_types.specs.declared.column.Column.{Column}
 use Rattle.live_points.specs.Known.{IsKnown}
 use Rattle.live_points.specs.Learned.{IsAmong, IsSampled, key_of_column}
-use Rattle.live_points.proofs.SampleLemmas.{item_at, learns_step, resample_step, resamples_keys, sampled_now, sampled_step, some_same}
+use Rattle.live_points.proofs.SampleLemmas.{item_at, learned_where, learns_step, resample_step, resamples_keys, sampled_now, sampled_step, some_same}
 use Rattle.live_points.proofs.samples.learn_columns.Goals as goal
 
-pub returns-in_err-add_key-clause-keys : goal.returns-in_err-add_key-clause-keys
-returns-in_err-add_key-clause-keys c =
-    let i = c.loop-column.column-index in
-    let there : IsAmong c.args.columns.now c.column-item.result = (i, item_at c.args.columns.now i c.column-item.result c.loop-column-test.true c.column-item.is) in
-    learns_step c.args.columns.now c.args.keys.now c.loop-column.keys c.add_key.new.keys c.column-item.result there c.loop-column.invariant.keys c.add_key.ensures.adds
+pub learn_column-requires : goal.learn_column-requires
+learn_column-requires c =
+    let columns = c.args.columns.now in
+    let item = c.column-item.result in
+    let there : IsAmong columns item = (c.loop-column.column-index, item_at columns c.loop-column.column-index item c.loop-column-test.true c.column-item.is) in
+    learned_where c.args.cache.now.runs columns c.args.keys.now c.loop-column.keys c.args.samples.now c.loop-column.samples c.requires.holds item (c.requires.marked item there)
+    c.loop-column.invariant.keys c.loop-column.invariant.samples
 
-pub returns-in_err-add_key-clause-samples : goal.returns-in_err-add_key-clause-samples
-returns-in_err-add_key-clause-samples c =
-    resamples_keys c.args.cache.now.runs c.args.columns.now c.loop-column.keys c.add_key.new.keys c.args.samples.now c.loop-column.samples (λ key known. c.add_key.ensures.adds.kept key known) c.loop-column.invariant.samples
+pub returns-in_err-learn_column-clause-keys : goal.returns-in_err-learn_column-clause-keys
+returns-in_err-learn_column-clause-keys c =
+    let columns = c.args.columns.now in
+    let item = c.column-item.result in
+    let there : IsAmong columns item = (c.loop-column.column-index, item_at columns c.loop-column.column-index item c.loop-column-test.true c.column-item.is) in
+    learns_step columns c.args.keys.now c.loop-column.keys c.learn_column.new.keys item there c.loop-column.invariant.keys c.learn_column.ensures.adds
 
-pub returns-in_err-read-clause-keys : goal.returns-in_err-read-clause-keys
-returns-in_err-read-clause-keys c =
-    let i = c.loop-column.column-index in
-    let there : IsAmong c.args.columns.now c.column-item.result = (i, item_at c.args.columns.now i c.column-item.result c.loop-column-test.true c.column-item.is) in
-    learns_step c.args.columns.now c.args.keys.now c.loop-column.keys c.add_key.new.keys c.column-item.result there c.loop-column.invariant.keys c.add_key.ensures.adds
-
-pub returns-in_err-read-clause-samples : goal.returns-in_err-read-clause-samples
-returns-in_err-read-clause-samples c =
-    resamples_keys c.args.cache.now.runs c.args.columns.now c.loop-column.keys c.add_key.new.keys c.args.samples.now c.loop-column.samples (λ key known. c.add_key.ensures.adds.kept key known) c.loop-column.invariant.samples
-
-pub returns-in_err-take_sample-clause-keys : goal.returns-in_err-take_sample-clause-keys
-returns-in_err-take_sample-clause-keys c =
-    let i = c.loop-column.column-index in
-    let there : IsAmong c.args.columns.now c.column-item.result = (i, item_at c.args.columns.now i c.column-item.result c.loop-column-test.true c.column-item.is) in
-    learns_step c.args.columns.now c.args.keys.now c.loop-column.keys c.add_key.new.keys c.column-item.result there c.loop-column.invariant.keys c.add_key.ensures.adds
-
-pub returns-in_err-take_sample-clause-samples : goal.returns-in_err-take_sample-clause-samples
-returns-in_err-take_sample-clause-samples c =
+pub returns-in_err-learn_column-clause-samples : goal.returns-in_err-learn_column-clause-samples
+returns-in_err-learn_column-clause-samples c =
     let columns = c.args.columns.now in
     let runs = c.args.cache.now.runs in
-    let i = c.loop-column.column-index in
-    let there : IsAmong columns c.column-item.result = (i, item_at columns i c.column-item.result c.loop-column-test.true c.column-item.is) in
-    resample_step runs columns c.add_key.new.keys c.args.samples.now c.loop-column.samples c.take_sample.new.samples c.column-item.result there c.in_ok-add_key.ensures.ok
-    (resamples_keys runs columns c.loop-column.keys c.add_key.new.keys c.args.samples.now c.loop-column.samples (λ key known. c.add_key.ensures.adds.kept key known) c.loop-column.invariant.samples)
-    c.take_sample.ensures.kept
+    let item = c.column-item.result in
+    let there : IsAmong columns item = (c.loop-column.column-index, item_at columns c.loop-column.column-index item c.loop-column-test.true c.column-item.is) in
+    resample_step runs columns c.learn_column.new.keys c.args.samples.now c.loop-column.samples c.learn_column.new.samples item there
+    (resamples_keys runs columns c.loop-column.keys c.learn_column.new.keys c.args.samples.now c.loop-column.samples (λ key known. c.learn_column.ensures.adds.kept key known) c.loop-column.invariant.samples)
+    c.learn_column.ensures.kept
 
 pub loop-column-preserved : goal.loop-column-preserved
 loop-column-preserved c =
@@ -50,25 +39,27 @@ loop-column-preserved c =
     let runs = c.args.cache.now.runs in
     let i = c.loop-column.column-index in
     let item = c.column-item.result in
-    let adds = c.add_key.ensures.adds in
+    let keys = c.learn_column.new.keys in
+    let samples = c.learn_column.new.samples in
+    let adds = c.learn_column.ensures.adds in
     let there : IsAmong columns item = (i, item_at columns i item c.loop-column-test.true c.column-item.is) in
     record {
-      keys = learns_step columns c.args.keys.now c.loop-column.keys c.add_key.new.keys item there c.loop-column.invariant.keys adds;
+      keys = learns_step columns c.args.keys.now c.loop-column.keys keys item there c.loop-column.invariant.keys adds;
       samples =
-          resample_step runs columns c.add_key.new.keys c.args.samples.now c.loop-column.samples c.take_sample.new.samples item there c.in_ok-add_key.ensures.ok
-          (resamples_keys runs columns c.loop-column.keys c.add_key.new.keys c.args.samples.now c.loop-column.samples (λ key known. adds.kept key known) c.loop-column.invariant.samples)
-          c.take_sample.ensures.kept;
+          resample_step runs columns keys c.args.samples.now c.loop-column.samples samples item there
+          (resamples_keys runs columns c.loop-column.keys keys c.args.samples.now c.loop-column.samples (λ key known. adds.kept key known) c.loop-column.invariant.samples)
+          c.learn_column.ensures.kept;
       known = λ k column l g.
-          below_more (λ (j : ℕ). (q : Column) → slice_get columns j ≡ Some q → IsKnown c.add_key.new.keys (key_of_column q)) i
+          below_more (λ (j : ℕ). (q : Column) → slice_get columns j ≡ Some q → IsKnown keys (key_of_column q)) i
           (λ j below q at. adds.kept (key_of_column q) (c.loop-column.invariant.known j q below at))
-          (λ q at. subst (λ (r : Column). IsKnown c.add_key.new.keys (key_of_column r)) (some_same (slice_get columns i) item q there.1 at) c.in_ok-add_key.ensures.ok)
+          (λ q at. subst (λ (r : Column). IsKnown keys (key_of_column r)) (some_same (slice_get columns i) item q there.1 at) c.in_ok-learn_column.ensures.known)
           k l column g;
       sampled = λ k column l g.
-          below_more (λ (j : ℕ). (q : Column) → slice_get columns j ≡ Some q → IsSampled runs columns c.take_sample.new.samples q) i
-          (λ j below q at. sampled_step runs columns c.loop-column.samples c.take_sample.new.samples item q there (c.loop-column.invariant.sampled j q below at) c.take_sample.ensures.kept)
+          below_more (λ (j : ℕ). (q : Column) → slice_get columns j ≡ Some q → IsSampled runs columns samples q) i
+          (λ j below q at. sampled_step runs columns keys c.loop-column.samples samples item q there (c.loop-column.invariant.sampled j q below at) c.learn_column.ensures.kept)
           (λ q at.
-          subst (λ (r : Column). IsSampled runs columns c.take_sample.new.samples r) (some_same (slice_get columns i) item q there.1 at)
-          (sampled_now runs columns c.take_sample.new.samples item c.read.new.self there c.in_ok-read.ensures c.in_ok-take_sample.ensures.ok))
+          subst (λ (r : Column). IsSampled runs columns samples r) (some_same (slice_get columns i) item q there.1 at)
+          (sampled_now runs columns samples item there c.in_ok-learn_column.ensures.sampled))
           k l column g;
     }
 

@@ -40,3 +40,6 @@ invariant_of-self-2 c =
           (is_learned c.self.inside.cache.runs c.learn_columns.new.keys c.learn_columns.new.samples c.args.batch.now c.columns.result.now c.points.result.now
           c.requires c.columns.ensures c.points.ensures.points c.look_at.ensures c.in_ok-learn_columns.ensures.known c.in_ok-learn_columns.ensures.sampled)),
     )
+
+pub learn_columns-requires-clause-marked : goal.learn_columns-requires-clause-marked
+learn_columns-requires-clause-marked c = marked_columns c.args.batch.now c.requires c.columns.result.now c.columns.ensures
