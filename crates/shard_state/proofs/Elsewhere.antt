@@ -1,6 +1,6 @@
 -- What a change of one file leaves of the others.
 use Rattle.std.proofs.Common.{◌≢◌, ℕ, List, [], ◌∷◌, sym, subst, Option, None}
-use Rattle.std.specs.Prelude.{IsSomeAnd}
+use Rattle.std.specs.Prelude.{IsSomeAnd, nat_lt, true, false, if◌then◌else◌}
 use Rattle.shard_disk.specs.Crash.{Crashes, Everywhere, Leaves}
 use Rattle.shard_disk.specs.Directory.{ChangesAt, Directory, HasFile, Step}
 use Rattle.gate_log.specs.declared.log.Log.{Log}
@@ -9,7 +9,7 @@ use Rattle.wal_store.specs.Replay.{IsSegment, Logged}
 use Rattle.file_table.specs.Files.{row_numbers_of}
 use Rattle.file_table.specs.declared.row.FileRow.{FileRow}
 use Rattle.point_model.specs.Points.{Points}
-use Rattle.shard_state.specs.Layers.{HasLayers, IsLayer}
+use Rattle.shard_state.specs.Layers.{HasLayers, IsLayer, by_age, with_row}
 use Rattle.shard_state.specs.Books.{HasClosedSegments, IsApart, IsClosedLog}
 use Rattle.manifest_log.specs.declared.directory.Directory.{Directory as Named}
 use Rattle.manifest_log.specs.Reading.{bodies_of}
@@ -31,6 +31,16 @@ layers_elsewhere changed step [] [] d c apart made had = had
 layers_elsewhere changed step [] (l ∷ layers) d c apart made had = had
 layers_elsewhere changed step (row ∷ rows) [] d c apart made had = had
 layers_elsewhere changed step (row ∷ rows) (l ∷ layers) d c apart made had = (file_elsewhere row.no changed step (IsLayer row l) d c apart.0 made had.0, layers_elsewhere changed step rows layers d c apart.1 made had.1)
+
+-- rows that are apart are so in any order
+apart_with : (changed : ℕ) (row : FileRow) (rows : List FileRow) → row.no ≢ changed → IsApart changed (row_numbers_of rows) → IsApart changed (row_numbers_of (with_row row rows))
+apart_with changed row [] here apart = (here, tt)
+apart_with changed row (other ∷ rows) here apart = elim (nat_lt row.generation other.generation) as (λ b. IsApart changed (row_numbers_of (if b then row ∷ other ∷ rows else other ∷ with_row row rows)))
+    [ true ↦ (here, apart) | false ↦ (apart.0, apart_with changed row rows here apart.1) ]
+
+pub apart_by_age : (changed : ℕ) (rows : List FileRow) → IsApart changed (row_numbers_of rows) → IsApart changed (row_numbers_of (by_age rows))
+apart_by_age changed [] apart = tt
+apart_by_age changed (row ∷ rows) apart = apart_with changed row (by_age rows) apart.0 (apart_by_age changed rows apart.1)
 
 module _ (changed : ℕ) (step more : Step) (files files' : Directory) (crashes crashes' : Crashes) (made : ChangesAt changed step files files') (run : Leaves (ChangesAt changed more) crashes crashes') where
   pub everywhere_elsewhere : (file : ℕ) (P : List ℕ → Type 0) → file ≢ changed → Everywhere files crashes file P → Everywhere files' crashes' file P

@@ -27,10 +27,11 @@ use Rattle.series_store.proofs.HoldLemmas.{hold_fit, one_record_more}
 use Rattle.series_store.proofs.OnceLemmas.{records_file}
 use Rattle.wal_store.specs.Replay.{AreRecords, IsSegment, Logged}
 use Rattle.wal_store.specs.Segments.{Segments, SpellsRecord}
+use Rattle.wal_store.proofs.ReplayLemmas.{are_more}
 use Rattle.shard_state.specs.Books.{AreBooks, Books, HasClosedSegments, IsClosedLog, IsImage, IsLatest, IsSeriesFrom, next_logged, state_in}
 use Rattle.shard_state.specs.Keeping.{KeepsLayers, IsEntryDoubt, IsSeriesDoubt, Keeps, KeepsEarlier, KeepsLatest, KeepsManifest, KeepsSeriesFile}
-use Rattle.shard_state.specs.Layers.{HasLayers}
-use Rattle.shard_state.proofs.Elsewhere.{file_elsewhere, layers_elsewhere, segments_elsewhere}
+use Rattle.shard_state.specs.Layers.{HasLayers, by_age}
+use Rattle.shard_state.proofs.Elsewhere.{apart_by_age, file_elsewhere, layers_elsewhere, segments_elsewhere}
 
 -- a log with a gate, in a crash now
 pub log_image : (files : Directory) (crashes : Crashes) (log : Log) (records : List (List ℕ)) (doubt : Option (List ℕ)) (file : ℕ) (P : List ℕ → Type 0) → log.file ≡ file → HasGate log → Stands files crashes log records doubt
@@ -85,12 +86,6 @@ records_fit [] (body ∷ records) are = absurd are
 records_fit (l ∷ logged) [] are = tt
 records_fit (l ∷ logged) (body ∷ records) are = (record_fits l.number l.entry body are.0, records_fit logged records are.1)
 
-pub records_more : (logged : List Logged) (records : List (List ℕ)) (l : Logged) (body : List ℕ) → AreRecords logged records → SpellsRecord l.number l.entry body → AreRecords (logged ++ l ∷ []) (records ++ body ∷ [])
-records_more [] [] l body are spells = (spells, tt)
-records_more [] (b ∷ records) l body are spells = absurd are
-records_more (x ∷ logged) [] l body are spells = absurd are
-records_more (x ∷ logged) (b ∷ records) l body are spells = (are.0, records_more logged records l body are.1 spells)
-
 pub is_segment : (logged : List Logged) (records : List (List ℕ)) (bytes : List ℕ) → AreRecords logged records → IsGated records bytes → IsClosedLog (IsSegment logged) bytes
 is_segment logged records bytes are gated =
     let fit = records_fit logged records are in
@@ -111,7 +106,7 @@ latest_at_most books records (entry ∷ entries) [] are next bytes is = absurd n
 latest_at_most books records (entry ∷ entries) (body ∷ bodies) are next bytes is =
     ⊎_elim
     (λ longer.
-    let file = is_segment (books.latest ++ next_logged books entry ∷ []) (records ++ body ∷ []) bytes (records_more books.latest records (next_logged books entry) body are next.0) longer in (inl file.0, file.1))
+    let file = is_segment (books.latest ++ next_logged books entry ∷ []) (records ++ body ∷ []) bytes (are_more books.latest records (next_logged books entry) body are next.0) longer in (inl file.0, file.1))
     (λ rest. let file = latest_at_most books records entries bodies are next.1 bytes rest in (inr file.0, file.1)) is
 
 pub next_records : (books : Books) (doubt : Option Entry) (body : Option (List ℕ)) → IsEntryDoubt books doubt body → AreNextRecords books (option_to_list doubt) (doubtful body)
@@ -143,7 +138,7 @@ pub image_now : (files : Directory) (crashes : Crashes) (log : Log) (series : Ke
 image_now files crashes log series wal books doubt keeps c now = record {
   manifest = manifest_image files crashes log books.named keeps.manifest c now;
   series = series_image files crashes series.log books.series_file books.series keeps.series c now;
-  layers = layers_image files crashes books.named.files books.layers keeps.layers c now;
+  layers = layers_image files crashes (by_age books.named.files) books.layers keeps.layers c now;
   earlier = earlier_image files crashes books.before books.earlier keeps.earlier c now;
   latest = latest_image files crashes wal.log books doubt keeps.latest c now;
 }
@@ -154,7 +149,7 @@ module _ (books : Books) (next : List Entry) (sound : AreBooks books) (d c : Dir
   series_changes made = record {
     manifest = file_elsewhere manifest books.series_file _ (IsClosedLog (IsManifest books.named)) d c sound.apart.series_manifest made image.manifest;
     series = made.here;
-    layers = layers_elsewhere books.series_file _ books.named.files books.layers d c sound.apart.series_rows made image.layers;
+    layers = layers_elsewhere books.series_file _ (by_age books.named.files) books.layers d c (apart_by_age books.series_file books.named.files sound.apart.series_rows) made image.layers;
     earlier = segments_elsewhere books.series_file _ books.before books.earlier d c sound.apart.series_before made image.earlier;
     latest = file_elsewhere books.last books.series_file _ (IsClosedLog (IsLatest books next)) d c (λ e. sound.apart.last_series (sym e)) made image.latest;
   }
@@ -163,7 +158,7 @@ module _ (books : Books) (next : List Entry) (sound : AreBooks books) (d c : Dir
   latest_changes more made = record {
     manifest = file_elsewhere manifest books.last _ (IsClosedLog (IsManifest books.named)) d c sound.apart.last_manifest made image.manifest;
     series = file_elsewhere books.series_file books.last _ (IsClosedLog (IsSeriesFrom books.series)) d c sound.apart.last_series made image.series;
-    layers = layers_elsewhere books.last _ books.named.files books.layers d c sound.apart.last_rows made image.layers;
+    layers = layers_elsewhere books.last _ (by_age books.named.files) books.layers d c (apart_by_age books.last books.named.files sound.apart.last_rows) made image.layers;
     earlier = segments_elsewhere books.last _ books.before books.earlier d c sound.apart.last_before made image.earlier;
     latest = made.here;
   }

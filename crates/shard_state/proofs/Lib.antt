@@ -1,3 +1,4 @@
+pub mod Counting
 pub mod Elsewhere
 pub mod Ending
 pub mod Entering

@@ -18,8 +18,8 @@ use Rattle.manifest_log.specs.declared.directory.Directory.{Directory as Named}
 use Rattle.manifest_log.specs.Reading.{IsManifest, manifest}
 use Rattle.series_store.specs.Reading.{IsSeriesFile}
 use Rattle.wal_store.specs.Replay.{HasSegments, Holds, IsSegment, Logged, joined}
-use Rattle.wal_store.proofs.ReplayLemmas.{holds_next}
-use Rattle.shard_state.specs.Layers.{HasLayers, overlay}
+use Rattle.shard_state.proofs.Counting.{holds_next}
+use Rattle.shard_state.specs.Layers.{HasLayers, by_age, overlay}
 use Rattle.gate_log.specs.Records.{IsClosed}
 use Rattle.shard_state.specs.Meaning.{AreHeld, AreTaken, IsTaken, StandsFor, StandsWithAtMost, floor_of}
 use Rattle.shard_state.specs.Books.{AreBooks, Books, HasClosedSegments, IsClosedLog, IsImage, IsLatest, IsNext, IsSeriesFrom, meaning_of, next_logged, state_in, with_entry, with_series}
@@ -120,7 +120,7 @@ closed_last files (file ∷ before) [] last latest had here = absurd had
 closed_last files (file ∷ before) (l ∷ earlier) last latest had here = (had.0, closed_last files before earlier last latest had.1 here)
 
 -- the directory of an image stands for what the books say, where the last segment has these entries
-abbrev pub says_so : (books : Books) (files : Directory) → AreBooks books → HasFile files manifest (IsClosedLog (IsManifest books.named)) → HasFile files books.series_file (IsClosedLog (IsSeriesFile books.series)) → HasLayers files books.named.files books.layers
+abbrev pub says_so : (books : Books) (files : Directory) → AreBooks books → HasFile files manifest (IsClosedLog (IsManifest books.named)) → HasFile files books.series_file (IsClosedLog (IsSeriesFile books.series)) → HasLayers files (by_age books.named.files) books.layers
     → HasClosedSegments files books.before books.earlier → HasFile files books.last (IsClosedLog (IsSegment books.latest)) → StandsFor files (state_in books)
 says_so books files sound named series layers earlier latest =
     let all : HasClosedSegments files books.named.segments (books.earlier ++ books.latest ∷ []) =
@@ -163,7 +163,7 @@ StandsAsWithAtMost named layers state [] files = StandsAs named layers state fil
 StandsAsWithAtMost named layers state (entry ∷ entries) files = StandsAs named layers (state_after state (entry ∷ [])) files ⊎ StandsAsWithAtMost named layers state entries files
 
 stands_latest : (books : Books) (next : List Entry) (files : Directory) → AreBooks books → AllByRecursion (IsNext books) next → HasFile files manifest (IsClosedLog (IsManifest books.named)) → HasFile files books.series_file (IsClosedLog (IsSeriesFile books.series))
-    → HasLayers files books.named.files books.layers → HasClosedSegments files books.before books.earlier → HasFile files books.last (IsClosedLog (IsLatest books next)) → StandsAsWithAtMost books.named books.layers (state_in books) next files
+    → HasLayers files (by_age books.named.files) books.layers → HasClosedSegments files books.before books.earlier → HasFile files books.last (IsClosedLog (IsLatest books next)) → StandsAsWithAtMost books.named books.layers (state_in books) next files
 stands_latest books [] files sound may named series layers earlier latest = (says_so books files sound named series layers earlier latest, refl, refl)
 stands_latest books (entry ∷ next) files sound may named series layers earlier latest =
     ⊎_elim

@@ -11,19 +11,20 @@ use Rattle.gate_log.specs.Log.{IsLeft, Stands, doubtful}
 use Rattle.gate_log.specs.Records.{WithAtMost}
 use Rattle.gate_log.specs.Calls.Settle.{KeepsFile}
 use Rattle.point_model.specs.declared.entry.Entry.{Entry}
-use Rattle.manifest_log.specs.Reading.{bodies_of}
 use Rattle.series_store.specs.Calls.{Kept}
 use Rattle.series_store.specs.Format.{IsKey, record_bytes}
 use Rattle.series_store.specs.Lists.{MayAdd}
 use Rattle.series_store.proofs.HoldLemmas.{one_record_more}
 use Rattle.wal_store.specs.Segments.{Segments, SpellsRecord}
+use Rattle.wal_store.proofs.ReplayLemmas.{are_more}
 use Rattle.shard_state.specs.Books.{Books, IsClosedLog, IsLatest, IsNext, IsSeriesFrom, next_logged, state_in, with_entry, with_series}
 use Rattle.shard_state.specs.Crashes.{LeavesOnly}
 use Rattle.shard_state.specs.Engine.{IsLeftEntry}
 use Rattle.shard_state.specs.Keeping.{KeepsLayers, IsEntryDoubt, IsSeriesDoubt, Keeps, KeepsEarlier, KeepsManifest, KeepsSeriesFile}
+use Rattle.shard_state.specs.Layers.{by_age}
 use Rattle.shard_state.specs.Meaning.{StandsWithAtMost}
-use Rattle.shard_state.proofs.Elsewhere.{earlier_elsewhere, keeps_layers_elsewhere, manifest_elsewhere, series_elsewhere, stands_elsewhere}
-use Rattle.shard_state.proofs.Images.{image_now, latest_at_most, latest_changes, next_records, records_more, series_at_most, series_changes, series_doubts}
+use Rattle.shard_state.proofs.Elsewhere.{apart_by_age, earlier_elsewhere, keeps_layers_elsewhere, manifest_elsewhere, series_elsewhere, stands_elsewhere}
+use Rattle.shard_state.proofs.Images.{image_now, latest_at_most, latest_changes, next_records, series_at_most, series_changes, series_doubts}
 use Rattle.shard_state.proofs.Leaving.{leaves_of}
 use Rattle.shard_state.proofs.Standing.{image_stands, next_series, sound_entry, sound_series}
 
@@ -75,8 +76,8 @@ module _ (tells : Type 0) (told : tells) (files files' : Directory) (crashes cra
     earlier_there : KeepsEarlier files' crashes' books.before books.earlier
     earlier_there = earlier_elsewhere books.series_file Anything adding files files' crashes crashes' made ran books.before books.earlier keeps.sound.apart.series_before keeps.earlier
 
-    layers_there : KeepsLayers files' crashes' books.named.files books.layers
-    layers_there = keeps_layers_elsewhere books.series_file Anything adding files files' crashes crashes' made ran books.named.files books.layers keeps.sound.apart.series_rows keeps.layers
+    layers_there : KeepsLayers files' crashes' (by_age books.named.files) books.layers
+    layers_there = keeps_layers_elsewhere books.series_file Anything adding files files' crashes crashes' made ran (by_age books.named.files) books.layers (apart_by_age books.series_file books.named.files keeps.sound.apart.series_rows) keeps.layers
 
     latest_stands : Stands files' crashes' wal.log keeps.latest.records keeps.latest.body
     latest_stands =
@@ -162,8 +163,8 @@ module _ (tells : Type 0) (told : tells) (files files' : Directory) (crashes cra
   pub earlier_stays : KeepsEarlier files' crashes' books.before books.earlier
   earlier_stays = earlier_elsewhere books.last Anything step files files' crashes crashes' changed changing books.before books.earlier keeps.sound.apart.last_before keeps.earlier
 
-  pub layers_stay : KeepsLayers files' crashes' books.named.files books.layers
-  layers_stay = keeps_layers_elsewhere books.last Anything step files files' crashes crashes' changed changing books.named.files books.layers keeps.sound.apart.last_rows keeps.layers
+  pub layers_stay : KeepsLayers files' crashes' (by_age books.named.files) books.layers
+  layers_stay = keeps_layers_elsewhere books.last Anything step files files' crashes crashes' changed changing (by_age books.named.files) books.layers (apart_by_age books.last books.named.files keeps.sound.apart.last_rows) keeps.layers
 
   pub series_stays : KeepsSeriesFile files' crashes' series.log books.series_file books.series
   series_stays = series_elsewhere books.last Anything step files files' crashes crashes' changed changing series.log books.series_file books.series (λ e. keeps.sound.apart.last_series (sym keeps.series.own ∙ e)) keeps.series
@@ -212,7 +213,7 @@ module _ (tells : Type 0) (told : tells) (files files' : Directory) (crashes cra
         records = keeps.latest.records ++ body ∷ [];
         body = None;
         own = kept.file ∙ keeps.latest.own;
-        are = records_more books.latest keeps.latest.records (next_logged books entry) body keeps.latest.are spells;
+        are = are_more books.latest keeps.latest.records (next_logged books entry) body keeps.latest.are spells;
         doubts = tt;
         gate = kept.gate keeps.latest.gate;
         stands = stands;
@@ -222,12 +223,12 @@ module _ (tells : Type 0) (told : tells) (files files' : Directory) (crashes cra
 
     -- it is not, and may be in doubt
     pub entry_refused : (fault : Type 0) (left : Option (List ℕ)) → IsLeft keeps.latest.body body fault left → Stands files' crashes' new.log keeps.latest.records left
-        → (entry_left : Option Entry) × IsLeftEntry doubt entry entry_left × Keeps files' crashes' log series new books entry_left
+        → (entry_left : Option Entry) × IsLeftEntry fault doubt entry entry_left × Keeps files' crashes' log series new books entry_left
     entry_refused fault left is stands =
         ⊎_elim (λ none. (None, inl refl, keeps_left tells told files files' crashes crashes' log series old new books doubt keeps entering run kept same_files None None tt (subst (λ (o : Option (List ℕ)). Stands files' crashes' new.log keeps.latest.records o) none stands)))
         (λ other. ⊎_elim
         (λ was. (doubt, inr (inl refl), keeps_left tells told files files' crashes crashes' log series old new books doubt keeps entering run kept same_files doubt keeps.latest.body keeps.latest.doubts (subst (λ (o : Option (List ℕ)). Stands files' crashes' new.log keeps.latest.records o) was stands)))
-        (λ own. (Some entry, inr (inr refl), keeps_left tells told files files' crashes crashes' log series old new books doubt keeps entering run kept same_files (Some entry) (Some body) (spells, next) (subst (λ (o : Option (List ℕ)). Stands files' crashes' new.log keeps.latest.records o) own.1 stands)))
+        (λ own. (Some entry, inr (inr (own.0, refl)), keeps_left tells told files files' crashes crashes' log series old new books doubt keeps entering run kept same_files (Some entry) (Some body) (spells, next) (subst (λ (o : Option (List ℕ)). Stands files' crashes' new.log keeps.latest.records o) own.1 stands)))
         other) is
 
 module _ (tells : Type 0) (told : tells) (files files' : Directory) (crashes crashes' : Crashes) (log : Log) (series : Kept) (old new : Segments) (books : Books) (doubt : Option Entry)

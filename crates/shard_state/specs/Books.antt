@@ -12,7 +12,7 @@ use Rattle.series_store.specs.Reading.{IsSeriesFile}
 use Rattle.wal_store.specs.Replay.{IsSegment, Logged}
 use Rattle.wal_store.specs.Segments.{last_number}
 use Rattle.file_table.specs.Files.{row_numbers_of}
-use Rattle.shard_state.specs.Layers.{HasLayers}
+use Rattle.shard_state.specs.Layers.{HasLayers, by_age}
 use Rattle.shard_state.specs.Meaning.{IsSound, IsTaken, Meaning, state_of}
 
 -- The parts of a meaning by the files that have them: what the manifest names; the series file and its series; the segments but the
@@ -98,6 +98,6 @@ HasClosedSegments files (file ∷ segments) (logged ∷ others) = HasFile files 
 pub record IsImage (books : Books) (next : List Entry) (files : Directory) : Type 0 where
   pub manifest : HasFile files manifest (IsClosedLog (IsManifest books.named))
   pub series : HasFile files books.series_file (IsClosedLog (IsSeriesFrom books.series))
-  pub layers : HasLayers files books.named.files books.layers
+  pub layers : HasLayers files (by_age books.named.files) books.layers
   pub earlier : HasClosedSegments files books.before books.earlier
   pub latest : HasFile files books.last (IsClosedLog (IsLatest books next))

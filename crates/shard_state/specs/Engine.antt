@@ -25,15 +25,15 @@ pub record Holds {D R W : Type 0} (g : Ghosts D R W) (logs : Logs D) (books : Bo
   pub adopted : AreAdopted (g.handed_out logs.disk) books.named
   pub number : logs.number ≡ (state_in books).number
 
--- What the calls of the logs ask for, whatever the disk tells: their files are there and apart, and the log of entries goes on with
--- the next number.
+-- What the calls of the logs ask for: their files are there and apart, where the disk tells its files, and the log of entries goes on
+-- with the next number.
 pub record IsReady {D R W : Type 0} (g : Ghosts D R W) (logs : Logs D) : Type 0 where
   pub manifest_placed : IsTrue g.tells → IsPlaced (g.files logs.disk) logs.manifest.log
   pub series_placed : IsTrue g.tells → IsPlaced (g.files logs.disk) logs.series.log
   pub wal_placed : IsTrue g.tells → IsPlaced (g.files logs.disk) logs.wal.log
-  pub series_manifest : logs.manifest.log.file ≢ logs.series.log.file
-  pub wal_manifest : logs.manifest.log.file ≢ logs.wal.log.file
-  pub wal_series : logs.series.log.file ≢ logs.wal.log.file
+  pub series_manifest : IsTrue g.tells → logs.manifest.log.file ≢ logs.series.log.file
+  pub wal_manifest : IsTrue g.tells → logs.manifest.log.file ≢ logs.wal.log.file
+  pub wal_series : IsTrue g.tells → logs.series.log.file ≢ logs.wal.log.file
   pub counted : logs.wal.last ≡ logs.number
   pub limit : logs.number ≤ last_number
 
@@ -68,14 +68,14 @@ pub record MayFollow (books : Books) (prepared : Prepared) (entry : Entry) : Typ
   pub spells : IsRecordOf entry prepared
   pub next : IsNext (with_series books (series_in prepared.series)) entry
 
--- what is in doubt after a refusal: none, the entry that was, or this one
-abbrev pub IsLeftEntry : Option Entry → Entry → Option Entry → Type 0
-IsLeftEntry doubt entry left = (left ≡ None) ⊎ (left ≡ doubt) ⊎ (left ≡ Some entry)
+-- what is in doubt after a refusal: none, the entry that was, or after a fault this one
+abbrev pub IsLeftEntry : Type 0 → Option Entry → Entry → Option Entry → Type 0
+IsLeftEntry fault doubt entry left = (left ≡ None) ⊎ (left ≡ doubt) ⊎ (fault × (left ≡ Some entry))
 
--- After a refusal the series may be held, and at most one entry is in doubt: the one that was, or this one.
-pub record Refused {D R W : Type 0} (g : Ghosts D R W) (more : List (List ℕ)) (entry : Entry) (logs : Logs D) (books : Books) (doubt : Option Entry) : Type 0 where
+-- After a refusal the series may be held, and at most one entry is in doubt: the one that was, or after a fault this one.
+pub record Refused {D R W : Type 0} (g : Ghosts D R W) (fault : Type 0) (more : List (List ℕ)) (entry : Entry) (logs : Logs D) (books : Books) (doubt : Option Entry) : Type 0 where
   pub held : List (List ℕ)
   pub are : (held ≡ []) ⊎ (held ≡ more)
   pub left : Option Entry
-  pub is_left : IsLeftEntry doubt entry left
+  pub is_left : IsLeftEntry fault doubt entry left
   pub holds : Holds g logs (with_series books held) left

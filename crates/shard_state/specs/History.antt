@@ -1,5 +1,7 @@
 -- What holds of an engine over all moments since its start?
-use Rattle.std.specs.Prelude.{◌≡◌, ℕ, ◌+◌, ◌≤◌, List, [], ◌∷◌, length, map, take, Option}
+use Rattle.std.specs.Prelude.{◌≡◌, ℕ, ◌+◌, ◌≤◌, List, [], ◌∷◌, length, map, take, Contains, Option}
+use Rattle.std.specs.List.{AllByRecursion}
+use Rattle.std.specs.Option.{option_to_list}
 use Rattle.shard_disk.specs.Crash.{Crashes}
 use Rattle.shard_disk.specs.Directory.{Directory}
 use Rattle.shard_disk.specs.declared.disk.Disk.{Ghosts}
@@ -18,32 +20,34 @@ pub record Made : Type 0 where
 abbrev pub entries_of : List Made → List Entry
 entries_of made = map (λ (m : Made). m.entry) made
 
--- The directory stands for a prefix of the entries that has so many at least, or for that and one entry more.
-pub record StandsForPrefix (start : State) (entries : List Entry) (least : ℕ) (files : Directory) : Type 0 where
+-- The directory stands for a prefix of the entries that has so many at least, or for that and one entry more, which was refused.
+pub record StandsForPrefix (start : State) (entries refused : List Entry) (least : ℕ) (files : Directory) : Type 0 where
   pub count : ℕ
   pub at_least : least ≤ count
   pub at_most : count ≤ length entries
   pub further : List Entry
   pub one : length further ≤ 1
+  pub asked : AllByRecursion (Contains refused) further
   pub stands : Stands files (state_after (state_after start (take count entries)) further)
 
 -- each image since the moment of an entry has that entry
-abbrev pub AreKept : Crashes → State → List Entry → ℕ → List Made → Type 0
-AreKept crashes start entries count [] = Unit {0}
-AreKept crashes start entries count (m ∷ made) =
-    (m.moment ≤ crashes.moment) × ((c : Directory) → crashes.since m.moment c → StandsForPrefix start entries (count + 1) c) × AreKept crashes start entries (count + 1) made
+abbrev pub AreKept : Crashes → State → List Entry → List Entry → ℕ → List Made → Type 0
+AreKept crashes start entries refused count [] = Unit {0}
+AreKept crashes start entries refused count (m ∷ made) =
+    (m.moment ≤ crashes.moment) × ((c : Directory) → crashes.since m.moment c → StandsForPrefix start entries refused (count + 1) c) × AreKept crashes start entries refused (count + 1) made
 
--- Each image of any moment since the start's stands for a prefix of the entries, with at most one entry more, and each since an
--- entry's moment has that entry.
-pub record Survives (crashes : Crashes) (start : State) (since : ℕ) (made : List Made) : Type 0 where
+-- Each image of any moment since the start's stands for a prefix of the entries, with at most one entry more, which was refused, and
+-- each since an entry's moment has that entry.
+pub record Survives (crashes : Crashes) (start : State) (since : ℕ) (made : List Made) (refused : List Entry) : Type 0 where
   pub later : since ≤ crashes.moment
-  pub each : (c : Directory) → crashes.since since c → StandsForPrefix start (entries_of made) 0 c
-  pub kept : AreKept crashes start (entries_of made) 0 made
+  pub each : (c : Directory) → crashes.since since c → StandsForPrefix start (entries_of made) refused 0 c
+  pub kept : AreKept crashes start (entries_of made) refused 0 made
 
--- The logs stand for the entries behind the start, and every crash since then leaves a prefix of them.
-pub record Ran {D R W : Type 0} (g : Ghosts D R W) (logs : Logs D) (start : State) (since : ℕ) (made : List Made) : Type 0 where
+-- The logs stand for the entries behind the start, with one in doubt or none, which was refused; and every crash since the start
+-- leaves a prefix of them.
+pub record Ran {D R W : Type 0} (g : Ghosts D R W) (logs : Logs D) (start : State) (since : ℕ) (made : List Made) (refused : List Entry) (doubt : Option Entry) : Type 0 where
   pub books : Books
-  pub doubt : Option Entry
   pub holds : Holds g logs books doubt
   pub is : state_in books ≡ state_after start (entries_of made)
-  pub survives : Survives (g.crashes logs.disk) start since made
+  pub asked : AllByRecursion (Contains refused) (option_to_list doubt)
+  pub survives : Survives (g.crashes logs.disk) start since made refused

@@ -16,7 +16,7 @@ use Rattle.wal_store.specs.Replay.{AreRecords, IsSegment, Logged}
 use Rattle.wal_store.specs.Segments.{Segments, SpellsRecord}
 use Rattle.file_table.specs.declared.row.FileRow.{FileRow}
 use Rattle.point_model.specs.Points.{Points}
-use Rattle.shard_state.specs.Layers.{IsLayer}
+use Rattle.shard_state.specs.Layers.{IsLayer, by_age}
 use Rattle.shard_state.specs.Books.{AreBooks, Books, IsClosedLog, IsNext, state_in}
 
 -- the manifest's log has the edits that lead to what is named, and none is in doubt
@@ -80,7 +80,7 @@ pub record Keeps (files : Directory) (crashes : Crashes) (manifest_log : Log) (h
   pub manifest : KeepsManifest files crashes manifest_log books.named
   pub keys : held.keys ≡ books.series
   pub series : KeepsSeriesFile files crashes held.log books.series_file books.series
-  pub layers : KeepsLayers files crashes books.named.files books.layers
+  pub layers : KeepsLayers files crashes (by_age books.named.files) books.layers
   pub earlier : KeepsEarlier files crashes books.before books.earlier
   pub latest : KeepsLatest files crashes wal.log books doubt
   pub segments : wal.files ≡ books.named.segments

@@ -1,5 +1,5 @@
 -- What do the TSM files of a directory hold?
-use Rattle.std.specs.Prelude.{ℕ, List, [], ◌∷◌}
+use Rattle.std.specs.Prelude.{ℕ, List, [], ◌∷◌, nat_lt, if◌then◌else◌}
 use Rattle.std.specs.BTreeMap.{insert_entry}
 use Rattle.shard_disk.specs.Directory.{Directory, HasFile}
 use Rattle.file_table.specs.declared.row.FileRow.{FileRow}
@@ -9,6 +9,16 @@ use Rattle.point_model.specs.Points.{Points, cell_cmp, no_points}
 -- stands for nothing.
 abbrev pub IsLayer : FileRow → Points → List ℕ → Type 0
 IsLayer row layer bytes = ⊥
+
+-- the row before the first that is younger
+abbrev pub with_row : FileRow → List FileRow → List FileRow
+with_row row [] = row ∷ []
+with_row row (other ∷ rows) = if nat_lt row.generation other.generation then row ∷ other ∷ rows else other ∷ with_row row rows
+
+-- the rows by their generations, the oldest first
+abbrev pub by_age : List FileRow → List FileRow
+by_age [] = []
+by_age (row ∷ rows) = with_row row (by_age rows)
 
 -- the file of each row is its layer
 abbrev pub HasLayers : Directory → List FileRow → List Points → Type 0

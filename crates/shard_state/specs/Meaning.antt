@@ -14,9 +14,9 @@ use Rattle.manifest_log.specs.declared.directory.Directory.{Directory as Named}
 use Rattle.manifest_log.specs.Reading.{IsManifest, manifest}
 use Rattle.series_store.specs.Reading.{IsSeriesFile}
 use Rattle.wal_store.specs.Replay.{HasSegments, Holds, Logged, joined}
-use Rattle.shard_state.specs.Layers.{HasLayers, overlay}
+use Rattle.shard_state.specs.Layers.{HasLayers, by_age, overlay}
 
--- What the files of a directory say: what the manifest names, the series by id, the points of each TSM file, the entries of each
+-- What the files of a directory say: what the manifest names, the series by id, the points of each TSM file, the oldest generation first, the entries of each
 -- segment, and those of them that are past the floor.
 pub record Meaning : Type 0 where
   pub named : Named
@@ -29,7 +29,7 @@ pub record Meaning : Type 0 where
 pub record Says (files : Directory) (meaning : Meaning) : Type 0 where
   pub manifest : HasFile files manifest (IsManifest meaning.named)
   pub series : IsSomeAnd meaning.named.series (λ file. HasFile files file (IsSeriesFile meaning.series))
-  pub layers : HasLayers files meaning.named.files meaning.layers
+  pub layers : HasLayers files (by_age meaning.named.files) meaning.layers
   pub segments : HasSegments files meaning.named.segments meaning.segments
 
 -- it holds of the manifest and of each log that it names

@@ -1,5 +1,5 @@
 // What an entry needs in memory.
-ghost use Rattle.std.specs.Prelude.{◌≡◌, ◌<◌, [], IfOk};
+ghost use Rattle.std.specs.Prelude.{◌≡◌, ◌<◌, [], None, IfOk};
 ghost use Rattle.point_model.specs.Acceptance.{IsWritable};
 ghost use Rattle.point_model.specs.Deletions.{IsLoggable};
 ghost use Rattle.point_model.specs.declared.entry.Entry.{Entry};
@@ -36,6 +36,7 @@ impl<D> Logs<D> {
 
         ensures ready { IfOk result (MayEnter self.new) }
         ensures series { IfOk result (λ prepared. series_in prepared.series ≡ new.now) }
+        ensures none { IfOk result (λ prepared. new.now ≡ [] → prepared.series ≡ None) }
         ensures record { IfOk result (IsRecordOf (Entry.Write client batch.now)) }
         ensures same { self.new ≡ record self.old { series = record self.old.series { room = self.new.series.room } } }
     {
@@ -54,7 +55,7 @@ impl<D> Logs<D> {
         requires limit { self.now.number < last_number }
 
         ensures ready { IfOk result (MayEnter self.now) }
-        ensures series { IfOk result (λ prepared. series_in prepared.series ≡ []) }
+        ensures none { IfOk result (λ prepared. prepared.series ≡ None) }
         ensures record { IfOk result (IsRecordOf (Entry.Delete client deletion.now)) }
     {
         let record = self.wal.delete_record(self.number + 1, client, deletion)?;
