@@ -1,5 +1,5 @@
 -- An engine's history goes on.
-use Rattle.std.proofs.Common.{◌≡◌, ◌+◌, ℕ, List, [], ◌∷◌, ◌++◌, map, refl, sym, ap, subst, ◌∙◌, Option, None, Result, Err}
+use Rattle.std.proofs.Common.{◌≡◌, ℕ, List, [], ◌∷◌, ◌++◌, refl, sym, ap, subst, ◌∙◌, Option, None, Result, Err}
 use Rattle.std.proofs.lemmas.List.{map-append}
 use Rattle.shard_disk.specs.declared.disk.Disk.{Ghosts}
 use Rattle.point_model.specs.Histories.{State, after_entry, state_after}

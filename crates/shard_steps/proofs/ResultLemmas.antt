@@ -1,6 +1,6 @@
 -- What is known of a result, by cases.
-use Rattle.std.proofs.Common.{◌≡◌, Result, Ok, Err, Option, Some, None, refl, sym, ◌∙◌}
-use Rattle.std.specs.Prelude.{IfOk, IfErr, OnOk, OnErr}
+use Rattle.std.proofs.Common.{◌≡◌, Result, Ok, Err, Option, Some, None, refl, sym}
+use Rattle.std.specs.Prelude.{IfOk, IfErr, OnErr}
 use Rattle.std.specs.Option.{option_map}
 
 -- nothing is found in what isn't there

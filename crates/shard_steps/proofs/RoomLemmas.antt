@@ -1,18 +1,17 @@
 -- The series of a batch that aren't held may be added: their record is no longer than that of the batch.
-use Rattle.std.proofs.Common.{◌≡◌, ◌≢◌, ℕ, ◌+◌, ◌^◌, ◌<◌, ◌≤◌, Bool, true, false, not, ◌&&◌, ◌||◌, List, [], ◌∷◌, ◌++◌, length, map, filter, cond, refl, sym, ap, ◌∙◌, subst, arith, if◌then◌else◌}
-use Rattle.std.specs.List.{All, AllByRecursion, Contains, IsDistinct, flat_map}
+use Rattle.std.proofs.Common.{◌≡◌, ℕ, ◌+◌, ◌^◌, ◌<◌, ◌≤◌, Bool, true, false, not, ◌&&◌, ◌||◌, List, [], ◌∷◌, ◌++◌, length, filter, cond, refl, sym, ap, ◌∙◌, subst, arith, if◌then◌else◌}
+use Rattle.std.specs.List.{AllByRecursion, Contains, IsDistinct, flat_map}
 use Rattle.std.specs.Str.{bytes_eq}
 use Rattle.std.proofs.lemmas.Bool.{false≢true}
-use Rattle.std.proofs.lemmas.Cmp.{nat_list_eq_equiv}
 use Rattle.std.proofs.lemmas.List.{length-append}
 use Rattle.std.proofs.lemmas.List.Elements.{recursion_from_All}
 use Rattle.fixed_width.proofs.Fronts.{length-u32}
 use Rattle.fixed_width.specs.Fields.{bytes_of_u32}
-use Rattle.tsdb_types.specs.Keys.{key_of, mark}
+use Rattle.tsdb_types.specs.Keys.{mark}
 use Rattle.tsdb_types.specs.declared.point.Point.{Point}
 use Rattle.point_model.specs.Acceptance.{IsKeyed, IsWritable}
-use Rattle.point_model.specs.Sizes.{goes_on, head_length, point_length, runs_length}
-use Rattle.series_store.specs.Format.{HasRoom, record_bytes, series_bytes}
+use Rattle.point_model.specs.Sizes.{goes_on, head_length, runs_length}
+use Rattle.series_store.specs.Format.{HasRoom, series_bytes}
 use Rattle.series_store.specs.Lists.{HasNoId, MayAdd}
 use Rattle.series_store.proofs.FormatLemmas.{length-series_bytes}
 use Rattle.series_store.proofs.ListLemmas.{no_id}
@@ -29,6 +28,7 @@ each_among P (x ∷ xs) so = (so x (ap (λ (b : Bool). b || is_among xs x) (same
     or_true : (a : Bool) → (a || true) ≡ true
     or_true true = refl
     or_true false = refl
+
     behind : (text : List ℕ) → is_among xs text ≡ true → (bytes_eq text x || is_among xs text) ≡ true
     behind text among = ap (λ (b : Bool). bytes_eq text x || b) among ∙ or_true (bytes_eq text x)
 
@@ -150,15 +150,23 @@ may_add held points new writable unheld few = record {
   fresh = each_among (HasNoId held) new (λ text among. no_id held text (and_second (is_among (series_of points) text) (is_among held text) (sym (unheld.exact text) ∙ among)));
   few = few;
   room = each_among HasRoom new (λ text among. of_series HasRoom points text short (of_batch text among));
-  short = omega (arith, length-append (bytes_of_u32 (length new)) (flat_map series_bytes new), length-u32 (length new), weighs new,
-      no_heavier points new unheld.distinct of_batch, writable.fits);
+  short = omega (
+    arith,
+    length-append (bytes_of_u32 (length new)) (flat_map series_bytes new),
+    length-u32 (length new),
+    weighs new,
+    no_heavier points new unheld.distinct of_batch,
+    writable.fits,
+  );
 }
   where
     of_batch : (text : List ℕ) → is_among new text ≡ true → is_among (series_of points) text ≡ true
     of_batch text among = and_first (is_among (series_of points) text) (not (is_among held text)) (sym (unheld.exact text) ∙ among)
+
     short_all : (ps : List Point) → AllByRecursion IsKeyed ps → AllByRecursion (λ (point : Point). HasRoom point.cell.series) ps
     short_all [] all = tt
     short_all (p ∷ ps) all = (short_series p all.0, short_all ps all.1)
+
     short : AllByRecursion (λ (point : Point). HasRoom point.cell.series) points
     short = short_all points (recursion_from_All IsKeyed points writable.keyed)
 
@@ -169,10 +177,12 @@ are_held held points new unheld = each points (λ text among. among)
     or_true : (a : Bool) → (a || true) ≡ true
     or_true true = refl
     or_true false = refl
+
     has : (text : List ℕ) → is_among (series_of points) text ≡ true → Contains (held ++ new) text
     has text among = Contains-list_any bytes_eq one_text (held ++ new) text (among_append held new text ∙ by_case (is_among held text)
         (λ there. ap (λ (b : Bool). b || is_among new text) there)
         (λ absent. ap (λ (b : Bool). is_among held text || b) (unheld.exact text ∙ ap (λ (b : Bool). b && not (is_among held text)) among ∙ ap not absent) ∙ or_true (is_among held text)))
+
     each : (ps : List Point) → ((text : List ℕ) → is_among (series_of ps) text ≡ true → is_among (series_of points) text ≡ true) → AreHeld (held ++ new) ps
     each [] within = tt
     each (p ∷ ps) within = (

@@ -1,8 +1,7 @@
 -- The series that are noted one after another are those that aren't held.
 use Rattle.std.proofs.Common.{◌≡◌, ℕ, Bool, true, false, not, ◌&&◌, ◌||◌, List, [], ◌∷◌, ◌++◌, map, filter, refl, sym, ap, ◌∙◌, subst, if◌then◌else◌, cond}
-use Rattle.std.specs.List.{IsDistinct, list_any}
+use Rattle.std.specs.List.{IsDistinct}
 use Rattle.std.specs.Str.{bytes_eq}
-use Rattle.std.proofs.lemmas.Bool.{false≢true}
 use Rattle.std.proofs.lemmas.Cmp.{nat_list_eq_equiv}
 use Rattle.std.proofs.lemmas.Map.Keys.{IsDistinct-push}
 use Rattle.indexmap.specs.IndexSet.{insert_key}
@@ -36,6 +35,7 @@ module _ (held : List (List ℕ)) where
       or_true : (a : Bool) → (a || true) ≡ true
       or_true true = refl
       or_true false = refl
+
       here : is_among new key ≡ true → is_among new text ≡ (is_among new text || bytes_eq text key)
       here among = by_case (bytes_eq text key)
           (λ same. turned new text key same ∙ among ∙ sym (ap (λ (b : Bool). is_among new text || b) same ∙ or_true (is_among new text)))
@@ -51,6 +51,7 @@ module _ (held : List (List ℕ)) where
       none there = by_case (bytes_eq text key)
           (λ same. sym (ap (λ (b : Bool). is_among new text || (b && not (is_among held text))) same ∙ ap (λ (b : Bool). is_among new text || not b) (turned held text key same ∙ there) ∙ nor (is_among new text)))
           (λ other. sym (ap (λ (b : Bool). is_among new text || (b && not (is_among held text))) other ∙ nor (is_among new text)))
+
       some : is_among held key ≡ false → bytes_eq text key ≡ (bytes_eq text key && not (is_among held text))
       some absent = by_case (bytes_eq text key)
           (λ same. same ∙ sym (ap (λ (b : Bool). b && not (is_among held text)) same ∙ ap (λ (b : Bool). not b) (turned held text key same ∙ absent)))
@@ -88,13 +89,16 @@ kept_series first (column ∷ columns) text =
   where
     rest : List Column
     rest = filter (λ c. not (is_same_column first c)) columns
+
     moved : (a b c : Bool) → (a || (b || c)) ≡ (b || (a || c))
     moved true true c = refl
     moved true false c = refl
     moved false b c = refl
+
     twice : (a b : Bool) → (a || b) ≡ (a || (a || b))
     twice true b = refl
     twice false b = refl
+
     absorbed : is_same_column first column ≡ true → (bytes_eq text first.series || is_among (texts_of columns) text) ≡ (bytes_eq text first.series || (bytes_eq text column.series || is_among (texts_of columns) text))
     absorbed same = twice (bytes_eq text first.series) (is_among (texts_of columns) text)
         ∙ ap (λ (c : Column). bytes_eq text first.series || (bytes_eq text c.series || is_among (texts_of columns) text)) (same-equal first column same)

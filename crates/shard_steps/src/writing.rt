@@ -27,11 +27,7 @@ const LAST_NUMBER: u64 = 9_223_372_036_854_775_807;
 /// points. Then new series are added, then the entry, and only then the points are set. After a refusal the points and the number
 /// are as they were, though new series may be held, and after a fault the entry may be in doubt: a crash may then leave it, until
 /// the next entry or `close` ends the doubt.
-pub fn write<D: Disk>(
-    shard: &mut Shard<D>,
-    client: u32,
-    batch: &Batch,
-) -> Result<u64, WriteFault>
+pub fn write<D: Disk>(shard: &mut Shard<D>, client: u32, batch: &Batch) -> Result<u64, WriteFault>
     requires ready { IsReady D.Disk shard.old }
     requires writable { IsWritable batch.now }
 
@@ -81,7 +77,9 @@ impl<D> Shard<D> {
         ensures no_fault { IsErrOf result WriteFault.Fault → ⊥ }
     {
         let held = self.logs.series().len() as u64;
-        if new.len() as u64 > self.settings.series.saturating_sub(held) || held > self.settings.series {
+        if new.len() as u64 > self.settings.series.saturating_sub(held)
+            || held > self.settings.series
+        {
             return Err(WriteFault::SeriesFull { held });
         }
         let held = self.live.cells();
@@ -113,12 +111,7 @@ impl<D> Shard<D> {
 
 impl<D: Disk> Shard<D> {
     /// Adds the entry of a batch to the logs, and then its points to those in memory. It takes no memory of its own.
-    fn commit(
-        &mut self,
-        client: u32,
-        batch: &Batch,
-        prepared: Prepared,
-    ) -> Result<u64, WriteFault>
+    fn commit(&mut self, client: u32, batch: &Batch, prepared: Prepared) -> Result<u64, WriteFault>
         requires ready { IsReady D.Disk self.old }
         requires may { MayEnter self.old.logs prepared }
         requires record { IsRecordOf (Write client batch.now) prepared }

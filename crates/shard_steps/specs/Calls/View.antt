@@ -1,5 +1,5 @@
 -- What does a view show of an engine, and why is none begun?
-use Rattle.std.specs.Prelude.{◌≡◌, ⊤, All}
+use Rattle.std.specs.Prelude.{◌≡◌, ◌≤◌, ⊤, All}
 use Rattle.tsdb_types.specs.Moments.{IsMoment}
 use Rattle.point_model.specs.declared.need.Need.{Need}
 use Rattle.point_model.specs.Acceptance.{IsSound}
@@ -17,6 +17,6 @@ pub record Lends {D : Type 0} (need : Need) (shown : Shown) (shard : Shard D) : 
 
 -- as many views as may be are out, or there was no memory
 abbrev pub HasCause : {D : Type 0} → Shard D → ViewFault → Type 0
-HasCause shard (fault.TooManyViews out) = (out ≡ shard.views) × (shard.views ≡ shard.settings.views)
+HasCause shard (fault.TooManyViews out) = (out ≡ shard.views) × (shard.settings.views ≤ shard.views)
 HasCause shard fault.Memory = ⊤
 HasCause shard fault.Fault = ⊥

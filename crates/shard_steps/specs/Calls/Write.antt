@@ -1,5 +1,5 @@
 -- What does a write make of an engine, and why is one refused?
-use Rattle.std.specs.Prelude.{◌≡◌, ◌⊎◌, ℕ, ◌+◌, ◌<◌, ◌≤◌, List, [], ◌∷◌, ◌++◌, length, Option, None, Some, IsTrue, IsErrOf, ⊤, Result, IfOk, IfErr, OnOk, OnErr}
+use Rattle.std.specs.Prelude.{◌≡◌, ℕ, ◌+◌, ◌<◌, ◌≤◌, List, [], ◌∷◌, ◌++◌, length, Option, None, Some, IsTrue, IsErrOf, ⊤, Result, IfOk, IfErr, OnOk, OnErr}
 use Rattle.shard_disk.specs.Health.{Health, Failed}
 use Rattle.shard_disk.specs.declared.disk.Disk.{Ghosts}
 use Rattle.tsdb_types.specs.declared.point.Point.{Point}

@@ -1,9 +1,8 @@
 -- The series is held, or it is put behind the new ones.
-use Rattle.std.proofs.Common.{◌≡◌, ℕ, Bool, true, false, List, ap, sym, ◌∙◌, if◌then◌else◌}
+use Rattle.std.proofs.Common.{ℕ, Bool, List, ap, sym, ◌∙◌, if◌then◌else◌}
 use Rattle.std.specs.Str.{bytes_eq}
 use Rattle.indexmap.specs.IndexSet.{insert_key}
 use Rattle.series_store.proofs.ListLemmas.{none_there, there}
-use Rattle.shard_steps.specs.Series.{is_among}
 use Rattle.shard_steps.proofs.unheld.note.Goals as goal
 
 pub returns-in-Some : goal.returns-in-Some

@@ -1,7 +1,6 @@
 -- One series more is noted.
-use Rattle.std.proofs.Common.{◌≡◌, ◌+◌, ℕ, suc, List, [], ◌∷◌, length, map, drop, drop-cons, refl, sym, ap, subst, ◌∙◌, arith}
+use Rattle.std.proofs.Common.{◌≡◌, ◌+◌, ℕ, suc, List, [], ◌∷◌, length, drop, drop-cons, refl, sym, ap, subst, ◌∙◌, arith}
 use Rattle.std.proofs.lemmas.List.{drop_all}
-use Rattle.tsdb_types.specs.Columns.{columns_of}
 use Rattle.tsdb_types.specs.declared.column.Column.{Column}
 use Rattle.shard_steps.specs.Series.{AreUnheld, all_noted}
 use Rattle.shard_steps.proofs.UnheldLemmas.{noted_unheld, texts_of}
@@ -20,7 +19,7 @@ loop-column-preserved c =
     let i = c.loop-column.column-index in
     let one : suc i ≡ i + 1 = omega arith in
     let step : drop i items ≡ c.column-item.result ∷ drop (i + 1) items = drop-cons items i c.column-item.result c.loop-column-test.true
-        ∙ ap (λ (z : Column). z ∷ drop (suc i) items) (sym c.column-item.is) ∙ ap (λ (n : ℕ). c.column-item.result ∷ drop n items) one in
+    ∙ ap (λ (z : Column). z ∷ drop (suc i) items) (sym c.column-item.is) ∙ ap (λ (n : ℕ). c.column-item.result ∷ drop n items) one in
     ap (all_noted c.args.series.now.keys (texts_of (drop (i + 1) items))) c.in_ok-note.ensures
     ∙ ap (λ (l : List Column). all_noted c.args.series.now.keys (texts_of l) c.loop-column.new.keys) (sym step) ∙ c.loop-column.invariant
 

@@ -1,7 +1,6 @@
 -- what is noted so far, and then the rest, is all
 use Rattle.std.proofs.Common.{◌≡◌, map, drop, []}
 use Rattle.tsdb_types.specs.declared.column.Column.{Column}
-use Rattle.tsdb_types.specs.Columns.{columns_of}
 use Rattle.shard_steps.specs.Series.{all_noted}
 use Rattle.shard_steps.proofs.unheld.unheld.Given as goal
 

@@ -1,5 +1,5 @@
 -- No conflict was found, and the limits were looked at.
-use Rattle.std.proofs.Common.{◌≡◌, ◌≤◌, arith, refl}
+use Rattle.std.proofs.Common.{arith}
 use Rattle.std.proofs.lemmas.Result.{err_from_is_err_and}
 use Rattle.store_trait.specs.Plain.{conflict_of}
 use Rattle.point_model.specs.Acceptance.{conflict}

@@ -1,6 +1,6 @@
 -- The entry is in the logs and in memory, or in neither.
-use Rattle.std.proofs.Common.{◌≡◌, ◌⊎◌, ◌+◌, ◌≤◌, ◌++◌, ◌∷◌, [], ℕ, List, refl, sym, ap, ◌∙◌, subst, ⊎_elim, inl, inr, Option, append-nil}
-use Rattle.point_model.specs.Histories.{State, with_points}
+use Rattle.std.proofs.Common.{◌≡◌, ◌⊎◌, ◌≤◌, ◌++◌, ◌∷◌, [], ℕ, List, refl, sym, ap, ◌∙◌, subst, ⊎_elim, inl, inr, Option, append-nil}
+use Rattle.point_model.specs.Histories.{with_points}
 use Rattle.point_model.specs.Points.{Points}
 use Rattle.live_points.specs.Live.{Live}
 use Rattle.wal_store.specs.Segments.{last_number}
@@ -26,7 +26,7 @@ returns-in-Ok-clause-commits g c =
     record {
       ok = (
         ap (λ (p : Points). record { points = p; number = c.enter.new.self.number }) (ap (λ (l : Live). l.points) c.insert.ensures)
-        ∙ ap (λ (n : ℕ). record { points = with_points old.live.points c.args.batch.now; number = n }) counts.number,
+            ∙ ap (λ (n : ℕ). record { points = with_points old.live.points c.args.batch.now; number = n }) counts.number,
         c.number.ensures,
         subst (λ (n : ℕ). n ≤ last_number) (sym c.number.ensures) c.in-Ok.ensures.ready.limit,
         counts.keys,

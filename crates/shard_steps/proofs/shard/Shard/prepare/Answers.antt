@@ -1,5 +1,5 @@
 -- The new series may be added.
-use Rattle.std.proofs.Common.{◌≤◌, ◌+◌, List, ℕ, length, arith, subst, sym}
+use Rattle.std.proofs.Common.{List, ℕ, arith, subst, sym}
 use Rattle.series_store.specs.Lists.{MayAdd}
 use Rattle.shard_steps.proofs.RoomLemmas.{may_add}
 use Rattle.shard_steps.proofs.shard.Shard.prepare.Goals as goal
