@@ -1,6 +1,6 @@
 use Rattle.shard_state.proofs.Creating.{Empty, are_first, are_new, crash_begin, crash_last, crash_make}
 use Rattle.shard_state.proofs.Leaving.{leaves_then}
-use Rattle.shard_state.proofs.create.make_files.Goals as goal
+use Rattle.shard_state.proofs.first_files.make_files.Goals as goal
 
 pub returns-in_err-manifest-clause-crash : goal.returns-in_err-manifest-clause-crash
 returns-in_err-manifest-clause-crash g c =
