@@ -17,6 +17,42 @@ pub struct Shard<D> {
 impl<D> Shard<D> {
     ghost use Rattle.std.specs.Prelude.{◌≡◌};
 
+    /// An engine over logs that were opened, with the points that their entries leave. No view is out. The seed is one that clients
+    /// don't know: they choose the series.
+    pub fn new(
+        alloc: Global,
+        seed: Seed,
+        logs: Logs<D>,
+        live: LivePoints,
+        settings: Settings,
+    ) -> Shard<D>
+        ensures { result ≡ record { alloc = alloc; seed = seed; logs = logs; live = live; settings = settings; views = 0 } }
+    {
+        Shard {
+            alloc,
+            seed,
+            logs,
+            live,
+            settings,
+            views: 0,
+        }
+    }
+
+    /// The logs, for `shard_state::close`. The points in memory are gone.
+    pub fn into_logs(self) -> Logs<D>
+        ensures { result ≡ self.logs }
+    {
+        let Shard {
+            alloc: _,
+            seed: _,
+            logs,
+            live: _live,
+            settings: _,
+            views: _,
+        } = self;
+        logs
+    }
+
     /// The number of the last entry.
     pub fn number(&self) -> u64
         ensures { result ≡ self.now.logs.number }
