@@ -1,0 +1,5 @@
+pub mod CauseLemmas
+pub mod FileLemmas
+pub mod NamedLemmas
+pub mod OpeningLemmas
+pub mod ReadLemmas

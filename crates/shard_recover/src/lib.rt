@@ -1,0 +1,7 @@
+//! Opening a directory: its logs are read, or made where it is new, and what the manifest doesn't name is removed.
+#![tactic(auto)]
+
+mod named;
+mod open;
+mod parts;
+mod present;
