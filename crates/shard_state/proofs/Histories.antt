@@ -47,7 +47,8 @@ there : (files : Directory) (file : ℕ) (P : List ℕ → Type 0) → HasFile f
 there files file P had = some_of P (get files file) had
 
 -- A directory stands for a state. A disk that reads it, leaves nothing else, and has adopted its files is sound as it is opened.
-module _ {D R W : Type 0} (g : Ghosts D R W) (disk : D) (only : (c : Directory) → (g.crashes disk).now c → c ≡ g.files disk) (adopted : (n : ℕ) → IsPresent (g.files disk) n → IsTrue ((g.handed_out disk).adopted n)) where
+module _ {D R W : Type 0} (g : Ghosts D R W) (disk : D) (only : (c : Directory) → (g.crashes disk).now c → c ≡ g.files disk) (adopted : (n : ℕ) → IsPresent (g.files disk) n → IsTrue ((g.handed_out disk).adopted n))
+    (first : keys (g.files disk) ≡ [] → (g.handed_out disk).next_number ≡ manifest) where
   each_adopted : (segments : List ℕ) → AllByRecursion (λ file. HasFile (g.files disk) file IsClosed) segments → AllByRecursion (λ file. IsTrue ((g.handed_out disk).adopted file)) segments
   each_adopted [] all = tt
   each_adopted (file ∷ segments) all = (adopted file (there (g.files disk) file IsClosed all.0), each_adopted segments all.1)
@@ -58,7 +59,7 @@ module _ {D R W : Type 0} (g : Ghosts D R W) (disk : D) (only : (c : Directory) 
 
   sound_at : (state : State) → Stands (g.files disk) state → IsSoundAtOpening g disk state
   sound_at state stands = ⊎_elim
-      (λ blank. inl (⊎_elim (λ none. inl (none, (λ c now. inl (subst (λ (d : Directory). keys d ≡ []) (sym (only c now)) none)))) (λ first. inr (first, adopted manifest (there (g.files disk) manifest (IsGated []) first))) blank.0, blank.1))
+      (λ blank. inl (⊎_elim (λ none. inl (none, first none, (λ c now. inl (subst (λ (d : Directory). keys d ≡ []) (sym (only c now)) none)))) (λ gated. inr (gated, adopted manifest (there (g.files disk) manifest (IsGated []) gated))) blank.0, blank.1))
       (λ named. inr (record {
         stands = named;
         adopted = record {

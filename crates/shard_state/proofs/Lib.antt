@@ -1,4 +1,6 @@
+pub mod Alike
 pub mod Counting
+pub mod Creating
 pub mod Elsewhere
 pub mod Ending
 pub mod Entering

@@ -25,15 +25,15 @@ pub record Holds {D R W : Type 0} (g : Ghosts D R W) (logs : Logs D) (books : Bo
   pub adopted : AreAdopted (g.handed_out logs.disk) books.named
   pub number : logs.number ≡ (state_in books).number
 
--- What the calls of the logs ask for, whatever the disk tells: their files are there and apart, and the log of entries goes on with
--- the next number.
+-- What the calls of the logs ask for: their files are there and apart, where the disk tells its files, and the log of entries goes on
+-- with the next number.
 pub record IsReady {D R W : Type 0} (g : Ghosts D R W) (logs : Logs D) : Type 0 where
   pub manifest_placed : IsTrue g.tells → IsPlaced (g.files logs.disk) logs.manifest.log
   pub series_placed : IsTrue g.tells → IsPlaced (g.files logs.disk) logs.series.log
   pub wal_placed : IsTrue g.tells → IsPlaced (g.files logs.disk) logs.wal.log
-  pub series_manifest : logs.manifest.log.file ≢ logs.series.log.file
-  pub wal_manifest : logs.manifest.log.file ≢ logs.wal.log.file
-  pub wal_series : logs.series.log.file ≢ logs.wal.log.file
+  pub series_manifest : IsTrue g.tells → logs.manifest.log.file ≢ logs.series.log.file
+  pub wal_manifest : IsTrue g.tells → logs.manifest.log.file ≢ logs.wal.log.file
+  pub wal_series : IsTrue g.tells → logs.series.log.file ≢ logs.wal.log.file
   pub counted : logs.wal.last ≡ logs.number
   pub limit : logs.number ≤ last_number
 

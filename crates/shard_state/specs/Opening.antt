@@ -13,10 +13,11 @@ use Rattle.shard_state.specs.Engine.{AreAdopted}
 use Rattle.shard_state.specs.Layers.{HasLayers, by_age}
 use Rattle.shard_state.specs.Meaning.{IsBlank, Stands, StandsFor}
 
--- nothing is named yet, and a crash leaves nothing that is: no file is there, or the manifest is adopted
+-- Nothing is named yet, and a crash leaves nothing that is: no file is there and the manifest will have its number, or the manifest is
+-- there and adopted.
 abbrev pub IsBlankAtOpening : Directory → Crashes → HandedOut → Type 0
 IsBlankAtOpening files crashes handed =
-    ((keys files ≡ []) × ((c : Directory) → crashes.now c → IsBlank c)) ⊎ (HasFile files manifest (IsGated []) × IsTrue (handed.adopted manifest))
+    ((keys files ≡ []) × (handed.next_number ≡ manifest) × ((c : Directory) → crashes.now c → IsBlank c)) ⊎ (HasFile files manifest (IsGated []) × IsTrue (handed.adopted manifest))
 
 -- The files stand for the state, the logs are adopted, and each crash leaves the TSM files as they are.
 pub record IsNamedAtOpening (files : Directory) (crashes : Crashes) (handed : HandedOut) (state : State) : Type 0 where

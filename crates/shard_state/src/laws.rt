@@ -1,4 +1,5 @@
 ghost use Rattle.std.specs.Prelude.{◌≡◌, ◌+◌, ◌++◌, ◌∷◌, [], ℕ, List, length, Option, None, IsTrue};
+ghost use Rattle.std.specs.FinMap.{keys};
 ghost use Rattle.std.specs.Option.{option_to_list};
 ghost use Rattle.shard_disk.specs.Directory.{Directory, IsPresent};
 ghost use Rattle.point_model.specs.Histories.{State, state_after};
@@ -41,5 +42,6 @@ pub fn crashes_keep_entries<D: Disk>()
     ensures left { (logs : Logs D) (books : Books) (doubt : Option Entry) → IsTrue D.tells → Holds D.Disk logs books doubt
         → IsSoundWithAtMost D.Disk logs.disk (state_in books) (option_to_list doubt) }
     ensures opens { (disk : D) (state : State) → Stands (D.files disk) state → ((c : Directory) → (D.crashes disk).now c → c ≡ D.files disk)
-        → ((n : ℕ) → IsPresent (D.files disk) n → IsTrue ((D.handed_out disk).adopted n)) → IsSoundThroughout D.Disk disk state }
+        → ((n : ℕ) → IsPresent (D.files disk) n → IsTrue ((D.handed_out disk).adopted n)) → (keys (D.files disk) ≡ [] → (D.handed_out disk).next_number ≡ 0)
+        → IsSoundThroughout D.Disk disk state }
 {}

@@ -3,6 +3,7 @@
 #![tactic(auto)]
 
 mod closing;
+mod create;
 mod enter;
 mod laws;
 mod logs;

@@ -14,4 +14,4 @@ returns-clause-left g c =
     λ logs books doubt told holds. sound_again g.D.Disk logs books doubt holds (laws.as_read logs.disk told)
 
 pub returns-clause-opens : goal.returns-clause-opens
-returns-clause-opens g c = λ disk state stands only adopted. sound_after g.D.Disk disk only adopted state stands
+returns-clause-opens g c = λ disk state stands only adopted first. sound_after g.D.Disk disk only adopted first state stands
