@@ -109,7 +109,7 @@ segments_last files [] (l ∷ earlier) last latest had here = absurd had
 segments_last files (b ∷ before) [] last latest had here = absurd had
 segments_last files (b ∷ before) (l ∷ earlier) last latest had here = (had.0, segments_last files before earlier last latest had.1 here)
 
-each_of : (P Q : ℕ → Type 0) → ((n : ℕ) → P n → Q n) → (ns : List ℕ) → AllByRecursion P ns → AllByRecursion Q ns
+pub each_of : (P Q : ℕ → Type 0) → ((n : ℕ) → P n → Q n) → (ns : List ℕ) → AllByRecursion P ns → AllByRecursion Q ns
 each_of P Q leads [] all = tt
 each_of P Q leads (n ∷ ns) all = (leads n all.0, each_of P Q leads ns all.1)
 
@@ -118,7 +118,7 @@ some_of P Q leads None had = had
 some_of P Q leads (Some n) had = leads n had
 
 -- what holds of each log
-of_logs : (P Q : ℕ → Type 0) → ((n : ℕ) → P n → Q n) → (named : Named) → OfLogs P named → OfLogs Q named
+pub of_logs : (P Q : ℕ → Type 0) → ((n : ℕ) → P n → Q n) → (named : Named) → OfLogs P named → OfLogs Q named
 of_logs P Q leads named all = record { first = leads manifest all.first; series = some_of P Q leads named.series all.series; segments = each_of P Q leads named.segments all.segments }
 
 -- every crash leaves the logs that are adopted

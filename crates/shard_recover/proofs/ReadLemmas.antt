@@ -54,9 +54,9 @@ parts_ready g alloc disk found named kept wal entries number files c0 c1 c2 c3 s
       manifest_placed = λ told. subst (λ (f : Directory). IsPlaced f found.log) (sym same) (m.log.placed told);
       series_placed = reads.series.log.placed;
       wal_placed = reads.replays.log.placed;
-      series_manifest = λ e. d.series_manifest (sym m.log.file ∙ e ∙ reads.series.log.file);
-      wal_manifest = λ e. d.last_manifest (sym m.log.file ∙ e ∙ reads.replays.log.file);
-      wal_series = λ e. d.last_series (sym reads.series.log.file ∙ e ∙ reads.replays.log.file);
+      series_manifest = λ told e. d.series_manifest (sym m.log.file ∙ e ∙ reads.series.log.file);
+      wal_manifest = λ told e. d.last_manifest (sym m.log.file ∙ e ∙ reads.replays.log.file);
+      wal_series = λ told e. d.last_series (sym reads.series.log.file ∙ e ∙ reads.replays.log.file);
       counted = ap (λ (x : Segments). x.last) reads.replays.wal_is ∙ sym counted;
       limit = omega (arith, counted, reads.replays.holds.most);
     }
@@ -65,11 +65,11 @@ parts_ready g alloc disk found named kept wal entries number files c0 c1 c2 c3 s
 pub parts_open : {D R W : Type 0} (g : Ghosts D R W) (told : IsTrue g.tells) (alloc : Global) (old mid disk : D) (keeps : KeepsAdopted (g.files old) (g.crashes old) (g.handed_out old)) (found : Manifest) (named : Named) (kept : Kept) (wal : Segments) (entries : List Entry) (number : ℕ) (state : State)
     → g.files disk ≡ g.files old → g.handed_out disk ≡ g.handed_out old → Leaves Same (g.crashes old) (g.crashes mid) → Leaves Same (g.crashes mid) (g.crashes disk)
     → FindsNamed (IsTrue g.tells) found named (g.files old) (g.crashes old) (g.crashes mid) → ReadsLogs (IsTrue g.tells) named kept wal entries (g.files disk) (g.crashes mid) (g.crashes disk) → number ≡ named.floor + length entries
-    → IsSoundAtOpening g old state → Opens g state (record { alloc = alloc; disk = disk; manifest = found; series = kept; wal = wal; number = number }) entries
+    → IsSoundAtOpening g old state → (opens : Opens g state (record { alloc = alloc; disk = disk; manifest = found; series = kept; wal = wal; number = number }) entries) × (opens.books.named ≡ named)
 parts_open g told alloc old mid disk keeps found named kept wal entries number state same handed first second m reads counted sound =
     ⊎_elim (λ blank. absurd (fresh_unnamed (g.files old) named (blank_fresh (g.files old) (g.crashes old) (g.handed_out old) blank.0) (found_manifest (IsTrue g.tells) told found named (g.files old) (g.crashes old) (g.crashes mid) m))) opened sound
   where
-    opened : IsNamedAtOpening (g.files old) (g.crashes old) (g.handed_out old) state → Opens g state (record { alloc = alloc; disk = disk; manifest = found; series = kept; wal = wal; number = number }) entries
+    opened : IsNamedAtOpening (g.files old) (g.crashes old) (g.handed_out old) state → (opens : Opens g state (record { alloc = alloc; disk = disk; manifest = found; series = kept; wal = wal; number = number }) entries) × (opens.books.named ≡ named)
     opened s =
         let tells = IsTrue g.tells in
         let files = g.files old in
@@ -79,7 +79,7 @@ parts_open g told alloc old mid disk keeps found named kept wal entries number s
         let run = same_then (g.crashes old) (g.crashes mid) (g.crashes disk) first second in
         let books : Books = read_books tells told files (g.crashes old) (g.crashes disk) (g.handed_out old) keeps state s found named whole kept wal entries here run in
         let is = read_state tells told files (g.crashes old) (g.crashes disk) (g.handed_out old) keeps state s found named whole kept wal entries here run in
-        record {
+        (record {
           books = books;
           holds = record {
             keeps = subst (λ (f : Directory). Keeps f (g.crashes disk) found.log kept wal books None) (sym same) (read_keeps tells told files (g.crashes old) (g.crashes disk) (g.handed_out old) keeps state s found named whole kept wal entries here run);
@@ -89,4 +89,4 @@ parts_open g told alloc old mid disk keeps found named kept wal entries number s
           is = is;
           past_floor = refl;
           layers = read_layers tells told files (g.crashes old) (g.crashes disk) (g.handed_out old) keeps state s found named whole kept wal entries here run;
-        }
+        }, refl)

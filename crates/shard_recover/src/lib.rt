@@ -5,3 +5,4 @@ mod named;
 mod open;
 mod parts;
 mod present;
+mod sweep;

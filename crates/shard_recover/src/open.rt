@@ -1,20 +1,35 @@
 // From a disk to the logs of an engine.
-ghost use Rattle.std.specs.Prelude.{◌≡◌, IsTrue, IfErr, IfNone, IfOk, IfSome};
+ghost use Rattle.std.specs.Prelude.{◌≡◌, ◌∷◌, IsTrue, IfErr, IfNone, IfOk, IfSome};
 ghost use Rattle.shard_disk.specs.Crash.{Leaves, Same};
 ghost use Rattle.point_model.specs.Histories.{State};
 ghost use Rattle.gate_log.specs.Faults.{LogHasCause};
 ghost use Rattle.manifest_log.specs.Reading.{IsFresh};
+ghost use Rattle.shard_disk.specs.Directory.{Directory as Files};
+ghost use Rattle.manifest_log.specs.Calls.{HasNoReader};
+ghost use Rattle.manifest_log.specs.Edits.{names};
+ghost use Rattle.shard_state.specs.Crashes.{LeavesOnly};
 ghost use Rattle.shard_state.specs.Engine.{IsReady};
+ghost use Rattle.shard_state.specs.Meaning.{Stands};
 ghost use Rattle.shard_state.specs.Opening.{IsSoundAtOpening};
-ghost use Rattle.shard_recover.specs.Opening.{Opens, logs_on};
+ghost use Rattle.shard_recover.specs.Opening.{HasOpeningCause, Opens, OpensParts, ReadyParts, Removes};
 
 use crate::named::read_named;
 use crate::parts::Parts;
+use crate::present::list;
+use crate::sweep::sweep;
 use gate_log::LogFault;
-use manifest_log::Manifest;
+use manifest_log::{Directory, Manifest};
+use point_model::Entry;
 use shard_disk::Disk;
+use shard_state::Logs;
 use std::alloc::Global;
 use tsdb_types::Seed;
+
+/// The logs of a directory, and the entries past its floor, in order.
+pub struct Opened<D> {
+    pub logs: Logs<D>,
+    pub entries: Vec<Entry>,
+}
 
 /// The logs of a directory with an edit; `None` where nothing is named yet.
 pub(crate) fn read_parts<D: Disk>(
@@ -22,9 +37,8 @@ pub(crate) fn read_parts<D: Disk>(
     seed: Seed,
     disk: &mut D,
 ) -> Result<Option<Parts>, LogFault>
-    ensures opens { IfOk result (λ found. IfSome found (λ parts. IsTrue D.tells → (state : State) → IsSoundAtOpening D.Disk disk.old state
-        → Opens D.Disk state (logs_on alloc disk.new parts) parts.entries.items)) }
-    ensures ready { IfOk result (λ found. IfSome found (λ parts. IsReady D.Disk (logs_on alloc disk.new parts))) }
+    ensures opens { IfOk result (λ found. IfSome found (λ parts. IsTrue D.tells → (state : State) → IsSoundAtOpening D.Disk disk.old state → OpensParts D.Disk state alloc disk.new parts)) }
+    ensures ready { IfOk result (λ found. IfSome found (ReadyParts D.Disk alloc disk.new)) }
     ensures none { IfOk result (λ found. IfNone found (IsTrue D.tells → IsFresh (D.files disk.old))) }
     ensures fault { LogHasCause result (D.health disk.old) (D.health disk.new) }
     ensures files { D.files disk.new ≡ D.files disk.old }
@@ -38,9 +52,58 @@ pub(crate) fn read_parts<D: Disk>(
     let number = named.floor + entries.len() as u64;
     Ok(Some(Parts {
         manifest,
+        named,
         series,
         wal,
         entries,
         number,
     }))
+}
+
+/// The logs on their disk. Files that the manifest doesn't name are removed first.
+fn open_named<D: Disk>(
+    alloc: Global,
+    disk: D,
+    parts: Parts,
+) -> Result<Opened<D>, (D, LogFault)>
+    requires unread { HasNoReader (D.handed_out disk) }
+    requires ready { ReadyParts D.Disk alloc disk parts }
+
+    ensures ok { IfOk result (λ opened. IsTrue D.tells → (state : State) → OpensParts D.Disk state alloc disk parts → Opens D.Disk state opened.logs opened.entries.items) }
+    ensures ready { IfOk result (λ opened. IsReady D.Disk opened.logs) }
+    ensures crash { IfOk result (λ opened. IsTrue D.tells → (state : State) → OpensParts D.Disk state alloc disk parts → LeavesOnly (λ (c : Files). Stands c state) (D.crashes disk) (D.crashes opened.logs.disk)) }
+    ensures refused { IfErr result (λ refused. IsTrue D.tells → (state : State) → OpensParts D.Disk state alloc disk parts → LeavesOnly (λ (c : Files). Stands c state) (D.crashes disk) (D.crashes refused.0)) }
+    ensures fault { HasOpeningCause result (D.health disk) D.health }
+{
+    let mut disk = disk;
+    match remove_unnamed(alloc, &mut disk, &parts.named) {
+        Ok(()) => {
+            let Parts {
+                manifest,
+                named: _named,
+                series,
+                wal,
+                entries,
+                number,
+            } = parts;
+            let logs = Logs::new(alloc, disk, manifest, series, wal, number);
+            Ok(Opened { logs, entries })
+        }
+        Err(fault) => Err((disk, fault)),
+    }
+}
+
+/// Removes the files that aren't named.
+fn remove_unnamed<D: Disk>(
+    alloc: Global,
+    disk: &mut D,
+    named: &Directory,
+) -> Result<(), LogFault>
+    requires unread { HasNoReader (D.handed_out disk.old) }
+    ensures removes { Removes D.Disk (0 ∷ names named.now) disk.old disk.new }
+    ensures fault { LogHasCause result (D.health disk.old) (D.health disk.new) }
+{
+    let keep = named.names(alloc)?;
+    let numbers = list(disk)?;
+    sweep(disk, &numbers, &keep)
 }
