@@ -15,7 +15,7 @@ use Rattle.manifest_log.specs.Reading.{IsManifest, manifest}
 use Rattle.series_store.specs.Reading.{IsSeriesFile}
 use Rattle.wal_store.specs.Replay.{HasSegments, IsSegment, Logged}
 use Rattle.shard_state.specs.Layers.{HasLayers, IsLayer, by_age}
-use Rattle.shard_state.specs.Meaning.{IsBlank, OfLogs, Stands, StandsFor}
+use Rattle.shard_state.specs.Meaning.{Stands, StandsFor}
 
 module _ (d c : Directory) (same : (n : ℕ) → get c n ≡ get d n) where
   file_alike : (file : ℕ) (P : List ℕ → Type 0) → HasFile d file P → HasFile c file P

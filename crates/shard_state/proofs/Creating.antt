@@ -1,34 +1,31 @@
 -- The first files of a directory, as they are made one after another.
-use Rattle.std.proofs.Common.{◌≡◌, ◌≢◌, ◌⊎◌, inl, inr, ⊎_elim, ℕ, zero, suc, ◌<◌, List, [], ◌∷◌, refl, sym, ap, ◌∙◌, subst, arith, Bool, Option, Some, None, IsSome}
+use Rattle.std.proofs.Common.{◌≡◌, ◌≢◌, inl, inr, ⊎_elim, ℕ, zero, suc, ◌<◌, List, [], ◌∷◌, refl, sym, ◌∙◌, subst, arith, Bool, Option, Some, None, IsSome}
 use Rattle.std.specs.Prelude.{IsSomeAnd, IsTrue}
-use Rattle.std.specs.FinMap.{get, keys}
+use Rattle.std.specs.FinMap.{get}
 use Rattle.shard_disk.specs.Crash.{Crashes, Leaves}
-use Rattle.shard_disk.specs.Directory.{Anything, Appears, ChangesAt, Directory, HasFile, IsPresent, MadeOrNot}
+use Rattle.shard_disk.specs.Directory.{Appears, ChangesAt, Directory, HasFile, IsPresent, MadeOrNot}
 use Rattle.shard_disk.specs.HandedOut.{HandedOut, KeepsAdopted}
 use Rattle.shard_disk.specs.declared.disk.Disk.{Ghosts}
 use Rattle.shard_disk.proofs.Everywhere.{file_weaker}
 use Rattle.gate_log.specs.declared.log.Log.{Log}
 use Rattle.gate_log.specs.Calls.Make.{Makes}
-use Rattle.gate_log.specs.Log.{EndsBy, HasGate, IsPlaced, Reaches, Stands, room_for}
+use Rattle.gate_log.specs.Log.{EndsBy, HasGate, IsPlaced, Stands}
 use Rattle.gate_log.specs.Records.{IsClosed, IsGated, Spells}
 use Rattle.gate_log.proofs.Images.{log_image, shut_has}
 use Rattle.point_model.specs.Histories.{nothing}
 use Rattle.manifest_log.specs.declared.change.Change.{Change}
-use Rattle.manifest_log.specs.declared.directory.Directory.{Directory as Named}
 use Rattle.manifest_log.specs.declared.manifest.Manifest.{Manifest}
 use Rattle.manifest_log.specs.Calls.{Begins, CanBegin, CanFollow}
-use Rattle.manifest_log.specs.Edits.{Follows, empty}
 use Rattle.manifest_log.specs.Reading.{bodies_of, manifest}
 use Rattle.manifest_log.proofs.BeginLemmas.{begun_file, begun_gate, begun_placed, begun_stands, first_follows}
 use Rattle.manifest_log.proofs.LookLemmas.{none_there}
-use Rattle.shard_state.specs.declared.create.Files.{Files}
 use Rattle.shard_state.specs.Crashes.{LeavesOnly}
 use Rattle.shard_state.specs.Creating.{AreFirst, AreNew}
 use Rattle.shard_state.specs.Meaning.{Stands as StandsAs}
 use Rattle.shard_state.specs.Opening.{IsBlankAtOpening}
 use Rattle.shard_state.proofs.Alike.{stands_alike}
 use Rattle.shard_state.proofs.Elsewhere.{file_elsewhere, stands_elsewhere}
-use Rattle.shard_state.proofs.Leaving.{leaves_of, leaves_then}
+use Rattle.shard_state.proofs.Leaving.{leaves_of}
 
 some_of : {X : Type 0} (P : X → Type 0) (o : Option X) → IsSomeAnd o P → IsSome o
 some_of P None had = absurd had
@@ -41,11 +38,11 @@ there files file P had = some_of P (get files file) had
 abbrev pub Empty : Directory → Type 0
 Empty c = StandsAs c nothing
 
-blank_left : (c : Directory) → HasFile c manifest (IsGated []) → Empty c
+pub blank_left : (c : Directory) → HasFile c manifest (IsGated []) → Empty c
 blank_left c had = inl (inr had, refl)
 
 -- a manifest without an edit, in a crash now
-gated_now : (files : Directory) (crashes : Crashes) (log : Log) → log.file ≡ manifest → HasGate log → Stands files crashes log [] None → (c : Directory) → crashes.now c → HasFile c manifest (IsGated [])
+pub gated_now : (files : Directory) (crashes : Crashes) (log : Log) → log.file ≡ manifest → HasGate log → Stands files crashes log [] None → (c : Directory) → crashes.now c → HasFile c manifest (IsGated [])
 gated_now files crashes log file gate stands = log_image files crashes log [] None manifest (IsGated []) file gate stands (λ bytes is. is)
 
 -- the manifest's file is made, or was there

@@ -8,5 +8,6 @@ pub mod GoingOn
 pub mod Histories
 pub mod Images
 pub mod Leaving
+pub mod Naming
 pub mod Standing
 pub mod Steps

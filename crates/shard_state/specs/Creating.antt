@@ -1,8 +1,11 @@
 -- What are the first files of a directory?
-use Rattle.std.specs.Prelude.{◌≡◌, ◌≢◌, ◌^◌, ℕ, ◌<◌, List, [], ◌∷◌, Some, None, IsTrue}
+use Rattle.std.specs.Prelude.{◌≡◌, ◌≢◌, ◌^◌, ℕ, ◌<◌, List, [], ◌∷◌, Some, None, Result, Ok, Err, IsTrue}
 use Rattle.std.specs.declared.alloc.Global.{Global}
+use Rattle.shard_disk.specs.Directory.{Directory}
+use Rattle.shard_disk.specs.Health.{Ages, Failed, Health}
 use Rattle.shard_disk.specs.declared.disk.Disk.{Ghosts}
-use Rattle.gate_log.specs.declared.log.Log.{Log}
+use Rattle.gate_log.specs.declared.fault.LogFault.{LogFault}
+use Rattle.gate_log.specs.declared.fault.LogFault.TheVariants as fault
 use Rattle.gate_log.specs.Log.{HasGate, IsEmptyLog, IsPlaced, Stands}
 use Rattle.point_model.specs.Histories.{nothing}
 use Rattle.manifest_log.specs.declared.change.Change.{Change}
@@ -14,9 +17,11 @@ use Rattle.manifest_log.specs.Edits.{Follows, empty}
 use Rattle.manifest_log.specs.Reading.{manifest}
 use Rattle.series_store.specs.Calls.{Kept}
 use Rattle.wal_store.specs.Segments.{Segments}
-use Rattle.shard_state.specs.declared.create.Files.{Files}
+use Rattle.shard_state.specs.declared.first_files.Files.{Files}
 use Rattle.shard_state.specs.declared.logs.Logs.{Logs}
-use Rattle.shard_state.specs.Engine.{IsOpened, IsReady}
+use Rattle.shard_state.specs.Crashes.{LeavesOnly}
+use Rattle.shard_state.specs.Meaning.{Stands as StandsAs}
+use Rattle.shard_state.specs.Opening.{IsBlankAtOpening}
 
 -- the first edit: the series file, the segment, and no entry in TSM files
 abbrev pub first_changes : ℕ → ℕ → List Change
@@ -56,3 +61,14 @@ pub record AreNew {D R W : Type 0} (g : Ghosts D R W) (disk : D) (files : Files)
 -- the logs over this disk, with no entry
 abbrev pub first_logs : {D : Type 0} → Global → D → Manifest → Kept → Segments → Logs D
 first_logs alloc disk manifest series wal = record { alloc = alloc; disk = disk; manifest = manifest; series = series; wal = wal; number = 0 }
+
+-- Where nothing was named, and what a crash left stood for no points, this holds of whatever a crash at any moment of the call leaves.
+abbrev pub Creates : {D R W : Type 0} → Ghosts D R W → D → D → Type 0
+Creates g disk disk' =
+    IsTrue g.tells → IsBlankAtOpening (g.files disk) (g.crashes disk) (g.handed_out disk) → ((c : Directory) → (g.crashes disk).now c → StandsAs c nothing)
+    → LeavesOnly (λ (c : Directory). StandsAs c nothing) (g.crashes disk) (g.crashes disk')
+
+-- What making a directory does to the health of its disk: `Fault` is answered where the disk failed in the call, and there alone.
+abbrev pub CreateHasCause : {D : Type 0} → Result (Logs D) (D × LogFault) → Health → (D → Health) → Type 0
+CreateHasCause (Ok logs) old health = health logs.disk ≡ old
+CreateHasCause (Err refused) old health = Ages old (health refused.0) × (refused.1 ≡ fault.Fault → Failed old (health refused.0)) × ((refused.1 ≡ fault.Fault → ⊥) → health refused.0 ≡ old)

@@ -1,5 +1,6 @@
-//! Runs of the program over desks in memory.
+//! Runs of the program, over desks in memory and over files of the system.
 mod faults;
+mod files;
 mod rows;
 
 use crate::{OpenGate, tsmd};

@@ -1,0 +1,13 @@
+mod ColumnLemmas
+mod CommitLemmas
+mod ConflictLemmas
+mod CutLemmas
+mod EmptyLemmas
+mod FieldLemmas
+mod GatherLemmas
+mod HeldLemmas
+mod KnownLemmas
+mod ListedLemmas
+mod PlaceLemmas
+mod SampleLemmas
+mod SetLemmas

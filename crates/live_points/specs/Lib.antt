@@ -1,0 +1,5 @@
+pub mod Held
+pub mod Known
+pub mod Learned
+pub mod Live
+pub mod Listed

@@ -1,0 +1,5 @@
+pub mod MemberLemmas
+mod GoingOn
+mod ResultLemmas
+mod RoomLemmas
+mod UnheldLemmas
