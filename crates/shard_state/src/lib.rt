@@ -3,7 +3,6 @@
 #![tactic(auto)]
 
 mod closing;
-mod create;
 mod enter;
 mod first_files;
 mod laws;
