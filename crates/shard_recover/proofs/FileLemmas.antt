@@ -1,8 +1,7 @@
 -- Which files are there, and runs that add nothing.
-use Rattle.std.proofs.Common.{◌≡◌, ℕ, nat_eq, true, false, List, [], ◌∷◌, ◌||◌, refl, sym, ap, ◌∙◌, subst, arith, Option, None, Some, IsSome}
-use Rattle.std.proofs.lemmas.Bool.{false≢true}
+use Rattle.std.proofs.Common.{◌≡◌, ℕ, nat_eq, true, List, [], ◌∷◌, ◌||◌, refl, sym, ◌∙◌, arith}
 use Rattle.std.proofs.lemmas.Bool.Decides.{nat_tests}
-use Rattle.std.specs.FinMap.{get, keys, contains_key-keys}
+use Rattle.std.specs.FinMap.{keys, contains_key-keys}
 use Rattle.std.specs.List.{list_any}
 use Rattle.std.specs.Ordering.{nat_cmp, eq_by_cmp}
 use Rattle.shard_disk.specs.Crash.{Crashes, Leaves, Same}

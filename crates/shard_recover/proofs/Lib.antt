@@ -6,3 +6,4 @@ pub mod ReadLemmas
 pub mod SweepLemmas
 pub mod SpareLemmas
 pub mod SparedLemmas
+pub mod NewLemmas

@@ -1,5 +1,5 @@
 -- The files that a manifest names are apart.
-use Rattle.std.proofs.Common.{◌≡◌, ◌≢◌, ℕ, nat_eq, List, [], ◌∷◌, ◌++◌, refl, sym, ◌∙◌, subst, append_assoc, eq-eqb, false, Option, Some}
+use Rattle.std.proofs.Common.{◌≡◌, ◌≢◌, ℕ, nat_eq, List, [], ◌∷◌, ◌++◌, sym, ◌∙◌, subst, append_assoc, eq-eqb, false, Option, Some}
 use Rattle.std.proofs.lemmas.Bool.{false≢true}
 use Rattle.std.specs.List.{AllByRecursion, IsDistinct, flat_map}
 use Rattle.std.specs.Option.{option_to_list}

@@ -1,21 +1,18 @@
 -- A directory that is sound as it is opened stands for what its logs are read as.
-use Rattle.std.proofs.Common.{◌≡◌, ◌≢◌, inl, inr, ⊎_elim, ℕ, ◌+◌, List, [], ◌∷◌, ◌++◌, length, map, refl, sym, ap, ◌∙◌, subst, arith, Option, Some, None, IsSome, IsTrue}
+use Rattle.std.proofs.Common.{◌≡◌, ⊎_elim, ℕ, List, [], ◌∷◌, ◌++◌, map, refl, sym, ap, ◌∙◌, subst, Option, Some, None, IsSome, IsTrue}
 use Rattle.std.proofs.lemmas.Bool.{false≢true}
 use Rattle.std.proofs.lemmas.List.{append-nil}
 use Rattle.std.proofs.lemmas.Grind.{flat_map-append}
-use Rattle.std.specs.Prelude.{IsSomeAnd, Ok}
+use Rattle.std.specs.Prelude.{IsSomeAnd}
 use Rattle.std.specs.FinMap.{get}
 use Rattle.std.specs.List.{AllByRecursion}
 use Rattle.shard_disk.specs.Crash.{Crashes, Everywhere, IsDurable, Leaves, Same}
 use Rattle.shard_disk.specs.Directory.{Directory, HasFile, IsPresent}
 use Rattle.shard_disk.specs.HandedOut.{HandedOut, KeepsAdopted}
-use Rattle.shard_disk.specs.declared.disk.Disk.{Ghosts}
 use Rattle.shard_disk.proofs.Everywhere.{file_weaker}
 use Rattle.series_store.proofs.ListLemmas.{all_left, all_right}
 use Rattle.gate_log.specs.Log.{FoundBy}
 use Rattle.gate_log.specs.Records.{IsClosed, Spells}
-use Rattle.gate_log.specs.declared.log.Gate.{Gate}
-use Rattle.gate_log.specs.Damage.{IsEnd}
 use Rattle.gate_log.proofs.Unique.{found_log}
 use Rattle.gate_log.proofs.Reading.{reads_since, reads_then}
 use Rattle.point_model.specs.Histories.{State}
@@ -41,7 +38,7 @@ use Rattle.shard_state.specs.Meaning.{IsSound, Meaning, OfLogs, state_of}
 use Rattle.shard_state.specs.Opening.{IsNamedAtOpening}
 use Rattle.shard_recover.specs.Opening.{ReadsLogs}
 use Rattle.shard_recover.proofs.FileLemmas.{same_then}
-use Rattle.shard_recover.proofs.NamedLemmas.{Distinct, named_apart, rows_apart}
+use Rattle.shard_recover.proofs.NamedLemmas.{named_apart, rows_apart}
 
 some_at : {X : Type 0} (P : X → Type 0) (o : Option X) (v : X) → o ≡ Some v → IsSomeAnd o P → P v
 some_at P o v is had = subst (λ o'. IsSomeAnd o' P) is had

@@ -1,5 +1,5 @@
 -- What was read of a directory opens it.
-use Rattle.std.proofs.Common.{◌≡◌, ◌≢◌, inl, inr, ⊎_elim, ℕ, ◌+◌, List, [], length, refl, sym, ap, ◌∙◌, subst, arith, None, Some, IsTrue}
+use Rattle.std.proofs.Common.{◌≡◌, inl, inr, ⊎_elim, ℕ, ◌+◌, List, [], length, refl, sym, ap, ◌∙◌, subst, arith, None, Some, IsTrue}
 use Rattle.std.specs.Prelude.{Ok}
 use Rattle.std.specs.declared.alloc.Global.{Global}
 use Rattle.shard_disk.specs.Crash.{Crashes, Leaves, Same}
@@ -20,15 +20,13 @@ use Rattle.manifest_log.specs.Reading.{IsFresh, IsManifest, bodies_of, manifest}
 use Rattle.manifest_log.proofs.OnceLemmas.{one_reading}
 use Rattle.series_store.specs.Calls.{Kept}
 use Rattle.wal_store.specs.Segments.{Segments}
-use Rattle.shard_state.specs.declared.logs.Logs.{Logs}
 use Rattle.shard_state.specs.Books.{Books}
 use Rattle.shard_state.specs.Engine.{AreAdopted, IsReady}
 use Rattle.shard_state.specs.Keeping.{Keeps}
-use Rattle.shard_state.specs.Meaning.{OfLogs}
 use Rattle.shard_state.specs.Opening.{IsBlankAtOpening, IsNamedAtOpening, IsSoundAtOpening}
 use Rattle.shard_recover.specs.Opening.{Opens, ReadsLogs}
 use Rattle.shard_recover.proofs.FileLemmas.{same_then}
-use Rattle.shard_recover.proofs.NamedLemmas.{Distinct, named_apart}
+use Rattle.shard_recover.proofs.NamedLemmas.{named_apart}
 use Rattle.shard_recover.proofs.OpeningLemmas.{logs_since, named_then, read_adopted, read_books, read_keeps, read_layers, read_state}
 
 -- a manifest was read as such
@@ -74,19 +72,21 @@ parts_open g told alloc old mid disk keeps found named kept wal entries number s
         let tells = IsTrue g.tells in
         let files = g.files old in
         let here : ReadsLogs tells named kept wal entries files (g.crashes old) (g.crashes disk) =
-            logs_since tells named kept wal entries files (g.crashes old) (g.crashes mid) (g.crashes disk) first (subst (λ (f : Directory). ReadsLogs tells named kept wal entries f (g.crashes mid) (g.crashes disk)) same reads) in
+        logs_since tells named kept wal entries files (g.crashes old) (g.crashes mid) (g.crashes disk) first (subst (λ (f : Directory). ReadsLogs tells named kept wal entries f (g.crashes mid) (g.crashes disk)) same reads) in
         let whole = named_then tells found named files (g.crashes old) (g.crashes mid) (g.crashes disk) second m in
         let run = same_then (g.crashes old) (g.crashes mid) (g.crashes disk) first second in
         let books : Books = read_books tells told files (g.crashes old) (g.crashes disk) (g.handed_out old) keeps state s found named whole kept wal entries here run in
-        let is = read_state tells told files (g.crashes old) (g.crashes disk) (g.handed_out old) keeps state s found named whole kept wal entries here run in
-        (record {
-          books = books;
-          holds = record {
-            keeps = subst (λ (f : Directory). Keeps f (g.crashes disk) found.log kept wal books None) (sym same) (read_keeps tells told files (g.crashes old) (g.crashes disk) (g.handed_out old) keeps state s found named whole kept wal entries here run);
-            adopted = subst (λ (h : HandedOut). AreAdopted h named) (sym handed) (read_adopted tells told files (g.crashes old) (g.crashes disk) (g.handed_out old) keeps state s found named whole kept wal entries here run);
-            number = counted;
-          };
-          is = is;
-          past_floor = refl;
-          layers = read_layers tells told files (g.crashes old) (g.crashes disk) (g.handed_out old) keeps state s found named whole kept wal entries here run;
-        }, refl)
+        let is = read_state tells told files (g.crashes old) (g.crashes disk) (g.handed_out old) keeps state s found named whole kept wal entries here run in (
+          record {
+            books = books;
+            holds = record {
+              keeps = subst (λ (f : Directory). Keeps f (g.crashes disk) found.log kept wal books None) (sym same) (read_keeps tells told files (g.crashes old) (g.crashes disk) (g.handed_out old) keeps state s found named whole kept wal entries here run);
+              adopted = subst (λ (h : HandedOut). AreAdopted h named) (sym handed) (read_adopted tells told files (g.crashes old) (g.crashes disk) (g.handed_out old) keeps state s found named whole kept wal entries here run);
+              number = counted;
+            };
+            is = is;
+            past_floor = refl;
+            layers = read_layers tells told files (g.crashes old) (g.crashes disk) (g.handed_out old) keeps state s found named whole kept wal entries here run;
+          },
+          refl,
+        )

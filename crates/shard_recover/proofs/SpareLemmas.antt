@@ -1,14 +1,10 @@
 -- What is kept of an engine's logs where other files are removed.
-use Rattle.std.proofs.Common.{◌≡◌, ℕ, nat_eq, true, false, Bool, ◌||◌, List, [], ◌∷◌, ◌++◌, refl, sym, ap, ◌∙◌, subst, eq-eqb, Option, None, Some, IsTrue}
+use Rattle.std.proofs.Common.{◌≡◌, ℕ, nat_eq, true, false, Bool, ◌||◌, List, [], ◌∷◌, ◌++◌, refl, sym, ap, ◌∙◌, subst, eq-eqb, Option, Some}
 use Rattle.std.specs.Prelude.{IsSomeAnd}
-use Rattle.std.specs.FinMap.{get}
 use Rattle.std.specs.List.{AllByRecursion, list_any, flat_map}
 use Rattle.std.specs.Option.{option_to_list}
 use Rattle.shard_disk.specs.Crash.{Crashes, Everywhere, Leaves}
 use Rattle.shard_disk.specs.Directory.{Directory, HasFile}
-use Rattle.shard_disk.specs.HandedOut.{HandedOut}
-use Rattle.shard_disk.specs.declared.disk.Disk.{Ghosts}
-use Rattle.series_store.proofs.ListLemmas.{all_left, all_right}
 use Rattle.gate_log.specs.declared.log.Log.{Log}
 use Rattle.gate_log.specs.Log.{IsPlaced, Stands}
 use Rattle.file_table.specs.Files.{files_of}
@@ -22,12 +18,11 @@ use Rattle.series_store.specs.Calls.{Kept}
 use Rattle.wal_store.specs.Replay.{IsSegment, Logged}
 use Rattle.wal_store.specs.Segments.{Segments}
 use Rattle.shard_state.specs.Books.{Books, HasClosedSegments, IsClosedLog, IsImage}
-use Rattle.shard_state.specs.Engine.{AreAdopted}
 use Rattle.shard_state.specs.Keeping.{Keeps, KeepsEarlier, KeepsLayers}
 use Rattle.shard_state.specs.Layers.{HasLayers, by_age}
 use Rattle.shard_state.specs.Meaning.{OfLogs}
 use Rattle.shard_recover.specs.Opening.{IsAmong, Spares}
-use Rattle.shard_recover.proofs.OpeningLemmas.{each_of, of_logs}
+use Rattle.shard_recover.proofs.OpeningLemmas.{each_of}
 
 -- ---- the files that are named are among those to be kept
 

@@ -1,19 +1,18 @@
 -- What was opened is so where the files that aren't named are removed.
-use Rattle.std.proofs.Common.{◌≡◌, ℕ, List, [], ◌∷◌, ◌++◌, refl, sym, ap, ◌∙◌, subst, Option, None, Some, IsTrue}
+use Rattle.std.proofs.Common.{◌≡◌, ℕ, List, [], ◌∷◌, ◌++◌, refl, sym, ◌∙◌, subst, Option, None, Some, IsTrue}
 use Rattle.std.specs.Prelude.{IsSomeAnd}
 use Rattle.std.specs.List.{AllByRecursion}
 use Rattle.std.specs.declared.alloc.Global.{Global}
 use Rattle.shard_disk.specs.Directory.{Directory}
-use Rattle.shard_disk.specs.HandedOut.{HandedOut}
 use Rattle.shard_disk.specs.declared.disk.Disk.{Ghosts}
 use Rattle.series_store.proofs.ListLemmas.{all_left, all_right}
 use Rattle.point_model.specs.Histories.{State}
 use Rattle.manifest_log.specs.declared.directory.Directory.{Directory as Named}
 use Rattle.manifest_log.specs.Edits.{names}
 use Rattle.manifest_log.specs.Reading.{manifest}
-use Rattle.shard_state.specs.Books.{Books, state_in}
+use Rattle.shard_state.specs.Books.{Books}
 use Rattle.shard_state.specs.Crashes.{LeavesOnly}
-use Rattle.shard_state.specs.Engine.{AreAdopted, IsReady}
+use Rattle.shard_state.specs.Engine.{IsReady}
 use Rattle.shard_state.specs.Meaning.{OfLogs, Stands}
 use Rattle.shard_state.proofs.Images.{image_now}
 use Rattle.shard_state.proofs.Leaving.{leaves_of}

@@ -17,9 +17,12 @@ use Rattle.wal_store.specs.Replay.{Replays}
 use Rattle.wal_store.specs.Segments.{Segments}
 use Rattle.shard_state.specs.declared.logs.Logs.{Logs}
 use Rattle.shard_state.specs.Books.{Books, state_in}
+use Rattle.shard_state.specs.Crashes.{LeavesOnly}
+use Rattle.shard_state.specs.Meaning.{Stands}
+use Rattle.shard_state.specs.Opening.{IsSoundThroughout}
 use Rattle.manifest_log.specs.Reading.{manifest}
 use Rattle.shard_state.specs.Engine.{Holds, IsReady}
-use Rattle.shard_recover.specs.declared.open.Opened.{Opened}
+use Rattle.shard_recover.specs.declared.opening.Opened.{Opened}
 use Rattle.shard_recover.specs.declared.parts.Parts.{Parts}
 
 -- The logs stand for the state with nothing in doubt. These are the entries past the floor, and no points are in TSM files.
@@ -30,7 +33,11 @@ pub record Opens {D R W : Type 0} (g : Ghosts D R W) (state : State) (logs : Log
   pub past_floor : books.entries ≡ entries
   pub layers : books.layers ≡ []
 
--- the parts that were read or made, on their disk
+-- Where a disk is sound and what a crash leaves of it stands for its state, a crash at any moment of the calls leaves what does.
+abbrev pub LeavesState : {D R W : Type 0} → Ghosts D R W → D → D → Type 0
+LeavesState g old new = IsTrue g.tells → (state : State) → IsSoundThroughout g old state → LeavesOnly (λ (c : Directory). Stands c state) (g.crashes old) (g.crashes new)
+
+-- the parts that were read, on their disk
 abbrev pub logs_on : {D : Type 0} → Global → D → Parts → Logs D
 logs_on alloc disk parts = record { alloc = alloc; disk = disk; manifest = parts.manifest; series = parts.series; wal = parts.wal; number = parts.number }
 

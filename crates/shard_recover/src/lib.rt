@@ -2,7 +2,9 @@
 #![tactic(auto)]
 
 mod named;
-mod open;
+mod opening;
 mod parts;
 mod present;
 mod sweep;
+
+pub use opening::{Opened, open};

@@ -1,4 +1,4 @@
-use Rattle.std.proofs.Common.{◌≡◌, inl, refl, sym, ◌∙◌}
+use Rattle.std.proofs.Common.{inl, refl, sym, ◌∙◌}
 use Rattle.shard_disk.specs.Directory.{Anything, MadeOrNot, Vanishes}
 use Rattle.manifest_log.proofs.BeginLemmas.{any_kept}
 use Rattle.shard_recover.proofs.SweepLemmas.{removes_none, removes_one}

@@ -1,9 +1,8 @@
 use Rattle.std.proofs.Common.{ℕ, ◌+◌, ◌∙◌, ◌++◌, ◌∷◌, [], Some, sym, ap}
 use Rattle.manifest_log.proofs.FollowLemmas.{if_some_at}
 use Rattle.shard_recover.proofs.FileLemmas.{same_then}
-use Rattle.shard_recover.proofs.SpareLemmas.{keeps_spared}
 use Rattle.shard_recover.proofs.ReadLemmas.{parts_open, parts_ready}
-use Rattle.shard_recover.proofs.open.read_parts.Goals as goal
+use Rattle.shard_recover.proofs.opening.read_parts.Goals as goal
 
 pub returns-in_err-series-clause-crash : goal.returns-in_err-series-clause-crash
 returns-in_err-series-clause-crash g c = same_then _ (g.D.Disk.crashes c.read.new.disk) _ c.read.ensures.crash c.read_named.ensures.crash

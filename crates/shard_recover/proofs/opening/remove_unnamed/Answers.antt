@@ -2,7 +2,7 @@ use Rattle.std.proofs.Common.{ℕ, ◌∷◌, ◌∙◌, List, subst}
 use Rattle.manifest_log.specs.Edits.{names}
 use Rattle.shard_recover.specs.Opening.{Removes}
 use Rattle.shard_recover.proofs.SweepLemmas.{removes_none, removes_same, removes_then}
-use Rattle.shard_recover.proofs.open.remove_unnamed.Goals as goal
+use Rattle.shard_recover.proofs.opening.remove_unnamed.Goals as goal
 
 pub returns-in_err-keep-clause-removes : goal.returns-in_err-keep-clause-removes
 returns-in_err-keep-clause-removes g c =

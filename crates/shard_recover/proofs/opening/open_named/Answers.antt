@@ -5,7 +5,7 @@ use Rattle.shard_state.specs.Engine.{IsReady}
 use Rattle.shard_state.specs.Meaning.{Stands}
 use Rattle.shard_recover.specs.Opening.{Opens}
 use Rattle.shard_recover.proofs.SparedLemmas.{leaves_spared, opens_spared, ready_spared}
-use Rattle.shard_recover.proofs.open.open_named.Goals as goal
+use Rattle.shard_recover.proofs.opening.open_named.Goals as goal
 
 pub returns-in-Ok-clause-ok : goal.returns-in-Ok-clause-ok
 returns-in-Ok-clause-ok g c = λ told state opens.
