@@ -1,5 +1,5 @@
 -- How many series a store knows and how many are new to it, how many points its entries leave, and the numbers of its entries.
-use Rattle.std.proofs.Common.{◌≡◌, ◌∙◌, ℕ, ◌+◌, ◌<◌, ◌≤◌, Bool, true, false, not, ◌&&◌, ◌||◌, List, [], ◌∷◌, ◌++◌, length, refl, sym, ap, subst, arith, length-append, append-nil, Contains, Any, ◌⊎◌, inl, inr, ⊎_elim, Ordering, Less, Equal, Greater}
+use Rattle.std.proofs.Common.{◌≡◌, ◌∙◌, ℕ, ◌+◌, ◌≤◌, Bool, true, false, not, ◌&&◌, ◌||◌, List, [], ◌∷◌, ◌++◌, length, refl, sym, ap, subst, arith, length-append, append-nil, Contains, ◌⊎◌, inl, inr, ⊎_elim, Ordering, Less, Equal, Greater}
 use Rattle.std.specs.List.{IsDistinct}
 use Rattle.std.specs.Ordering.{match_ordering}
 use Rattle.std.specs.Str.{bytes_eq}
@@ -17,7 +17,7 @@ use Rattle.point_model.specs.declared.entry.Entry.{Entry}
 use Rattle.point_model.specs.declared.entry.Entry.TheVariants.{Write}
 use Rattle.point_model.specs.Histories.{after, with_points}
 use Rattle.point_model.specs.Points.{Points, cell_cmp, with_point}
-use Rattle.store_trait.specs.Calls.Write.{AreKnown, AreNew, HasSeries, WritesSeries}
+use Rattle.store_trait.specs.Calls.Write.{AreKnown, AreNew}
 use Rattle.store_trait.specs.Plain.{entries_of}
 use Rattle.store_trait.specs.Told.{Limits, numbers_from, points_in, points_written}
 use Rattle.shard_steps.specs.Series.{AreUnheld, is_among, series_of}
@@ -65,10 +65,10 @@ few_points client points (batch ∷ batches) =
 
 -- Series.
 
-contains_among : (texts : List (List ℕ)) (text : List ℕ) → Contains texts text → is_among texts text ≡ true
+pub contains_among : (texts : List (List ℕ)) (text : List ℕ) → Contains texts text → is_among texts text ≡ true
 contains_among texts text at = (is_member-Decides bytes_eq-Decides texts text).1 at
 
-among_contains : (texts : List (List ℕ)) (text : List ℕ) → is_among texts text ≡ true → Contains texts text
+pub among_contains : (texts : List (List ℕ)) (text : List ℕ) → is_among texts text ≡ true → Contains texts text
 among_contains texts text is = (is_member-Decides bytes_eq-Decides texts text).0 is
 
 and_true : (a b : Bool) → (a && not b) ≡ true → (a ≡ true) × (b ≡ false)
@@ -79,11 +79,11 @@ and_true false b is = absurd (false≢true is)
 true_and : (a b : Bool) → a ≡ true → b ≡ false → (a && not b) ≡ true
 true_and a b is none = ap (λ (x : Bool). x && not b) is ∙ ap (λ (x : Bool). true && not x) none
 
-or_true : (a b : Bool) → (a || b) ≡ true → (a ≡ true) ⊎ (b ≡ true)
+pub or_true : (a b : Bool) → (a || b) ≡ true → (a ≡ true) ⊎ (b ≡ true)
 or_true true b is = inl refl
 or_true false b is = inr is
 
-left_true : (a b : Bool) → a ≡ true → (a || b) ≡ true
+pub left_true : (a b : Bool) → a ≡ true → (a || b) ≡ true
 left_true a b is = ap (λ (x : Bool). x || b) is
 
 right_true : (a b : Bool) → b ≡ true → (a || b) ≡ true
@@ -125,7 +125,8 @@ module _ (limits : Limits) (history : List Entry) where
           (or_true (is_among limits.series text) (is_among (texts_in history) text) (sym (joined text) ∙ known_all text (contains_among known_of text at)))),
       (λ either. among_contains known_of text (all_known text (joined text ∙ ⊎_elim
           (λ at. left_true (is_among limits.series text) (is_among (texts_in history) text) (contains_among limits.series text at))
-          (λ wrote. right_true (is_among limits.series text) (is_among (texts_in history) text) (among_from_written history text wrote)) either))));
+          (λ wrote. right_true (is_among limits.series text) (is_among (texts_in history) text) (among_from_written history text wrote)) either))),
+    );
   }
 
   pub are_new : (points : List Point) → AreNew points limits history (new_of points)
@@ -133,16 +134,18 @@ module _ (limits : Limits) (history : List Entry) where
     distinct = new_distinct points;
     exact = λ text. (
       (λ at.
-      let both = and_true (is_among (series_of points) text) (is_among all_texts text) (sym (fresh_member all_texts (series_of points) text) ∙ contains_among (new_of points) text at) in
-      (has_from_among points text both.0,
-      (λ there. false≢true (sym both.1 ∙ joined text ∙ left_true (is_among limits.series text) (is_among (texts_in history) text) (contains_among limits.series text there))),
-      (λ wrote. false≢true (sym both.1 ∙ joined text ∙ right_true (is_among limits.series text) (is_among (texts_in history) text) (among_from_written history text wrote))))),
+          let both = and_true (is_among (series_of points) text) (is_among all_texts text) (sym (fresh_member all_texts (series_of points) text) ∙ contains_among (new_of points) text at) in (
+            has_from_among points text both.0,
+            (λ there. false≢true (sym both.1 ∙ joined text ∙ left_true (is_among limits.series text) (is_among (texts_in history) text) (contains_among limits.series text there))),
+            (λ wrote. false≢true (sym both.1 ∙ joined text ∙ right_true (is_among limits.series text) (is_among (texts_in history) text) (among_from_written history text wrote))),
+          )),
       (λ is. among_contains (new_of points) text (fresh_member all_texts (series_of points) text
           ∙ true_and (is_among (series_of points) text) (is_among all_texts text) (among_from_has points text is.0)
           (by_case (is_among all_texts text)
           (λ there. absurd (⊎_elim (λ first. is.1 (among_contains limits.series text first)) (λ wrote. is.2 (written_from_among history text wrote))
-              (or_true (is_among limits.series text) (is_among (texts_in history) text) (sym (joined text) ∙ there))))
-          (λ absent. absent)))));
+          (or_true (is_among limits.series text) (is_among (texts_in history) text) (sym (joined text) ∙ there))))
+          (λ absent. absent)))),
+    );
   }
 
   module _ (points : List Point) (keys unheld : List (List ℕ)) (are : AreUnheld keys points unheld)

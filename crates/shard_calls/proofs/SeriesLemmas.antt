@@ -1,5 +1,5 @@
 -- The series that a store knows, and those of a batch that are new to it.
-use Rattle.std.proofs.Common.{◌≡◌, ◌∙◌, ℕ, Bool, true, false, not, ◌&&◌, ◌||◌, List, [], ◌∷◌, ◌++◌, map, refl, sym, ap, subst, if◌then◌else◌, Any, ◌↔◌}
+use Rattle.std.proofs.Common.{◌≡◌, ◌∙◌, ℕ, Bool, true, false, not, ◌&&◌, ◌||◌, List, [], ◌∷◌, ◌++◌, refl, sym, ap, subst, if◌then◌else◌, Any}
 use Rattle.std.specs.List.{AllByRecursion, IsDistinct, list_any}
 use Rattle.std.specs.Str.{bytes_eq}
 use Rattle.std.proofs.lemmas.Bool.{false≢true}
@@ -20,7 +20,7 @@ pub or_false : (a b : Bool) → (a || b) ≡ false → (a ≡ false) × (b ≡ f
 or_false true b none = absurd (false≢true (sym none))
 or_false false b none = (refl, none)
 
-turned : (texts : List (List ℕ)) (a b : List ℕ) → bytes_eq a b ≡ true → is_among texts a ≡ is_among texts b
+pub turned : (texts : List (List ℕ)) (a b : List ℕ) → bytes_eq a b ≡ true → is_among texts a ≡ is_among texts b
 turned texts a b same = ap (λ (t : List ℕ). is_among texts t) ((bytes_eq-Decides a b).0 same)
 
 -- the texts that aren't held, each once
@@ -47,10 +47,10 @@ fresh_member held (first ∷ texts) text =
     by_case (is_among held first || is_among (fresh held texts) first)
     (λ there. ap (λ (b : Bool). is_among (if b then fresh held texts else first ∷ fresh held texts) text) there ∙ now
     ∙ absorb (bytes_eq text first) (is_among texts text) (is_among held text) (is_among texts first) (is_among held first) (is_among (fresh held texts) first)
-        (λ same. (turned texts text first same, turned held text first same)) there here)
+    (λ same. (turned texts text first same, turned held text first same)) there here)
     (λ absent. ap (λ (b : Bool). is_among (if b then fresh held texts else first ∷ fresh held texts) text) absent ∙ ap (λ (b : Bool). bytes_eq text first || b) now
     ∙ placed (bytes_eq text first) (is_among texts text) (is_among held text) (is_among held first) (is_among (fresh held texts) first)
-        (λ same. turned held text first same) absent)
+    (λ same. turned held text first same) absent)
 
 apart : (text : List ℕ) (texts : List (List ℕ)) → is_among texts text ≡ false → AllByRecursion (λ y. bytes_eq text y ≡ false) texts
 apart text [] none = tt

@@ -81,9 +81,13 @@ impl<D: EngineDisk, B: Site> Store for Alone<D, B> {
 
     fn write(&mut self, batch: &Batch) -> Result<u64, WriteFault> {
         self.batches.reserve(1)?;
-        let number = D::write(&mut self.shard, self.client, batch)?;
-        note(&mut self.batches, Snapshot::of(batch));
-        Ok(number)
+        match D::write(&mut self.shard, self.client, batch) {
+            Ok(number) => {
+                note(&mut self.batches, Snapshot::of(batch));
+                Ok(number)
+            }
+            Err(fault) => Err(fault),
+        }
     }
 
     fn begin_view(&mut self, need: &Need) -> Result<ListView, ViewFault> {

@@ -15,11 +15,7 @@ use tsdb_types::Batch;
 /// function that asks for a disk: what a disk is bound to, that it may be sent to a thread, is known there of one thread alone.
 pub trait EngineDisk: Disk {
     /// `shard_steps::write`, on this disk.
-    fn write(
-        shard: &mut Shard<Self>,
-        client: u32,
-        batch: &Batch,
-    ) -> Result<u64, WriteFault>
+    fn write(shard: &mut Shard<Self>, client: u32, batch: &Batch) -> Result<u64, WriteFault>
         requires ready { IsReady Self.Disk shard.old }
         requires writable { IsWritable batch.now }
 
@@ -34,21 +30,13 @@ pub trait EngineDisk: Disk {
 }
 
 impl EngineDisk for MemDisk {
-    fn write(
-        shard: &mut Shard<MemDisk>,
-        client: u32,
-        batch: &Batch,
-    ) -> Result<u64, WriteFault> {
+    fn write(shard: &mut Shard<MemDisk>, client: u32, batch: &Batch) -> Result<u64, WriteFault> {
         shard_steps::write(shard, client, batch)
     }
 }
 
 impl EngineDisk for Fuse {
-    fn write(
-        shard: &mut Shard<Fuse>,
-        client: u32,
-        batch: &Batch,
-    ) -> Result<u64, WriteFault> {
+    fn write(shard: &mut Shard<Fuse>, client: u32, batch: &Batch) -> Result<u64, WriteFault> {
         shard_steps::write(shard, client, batch)
     }
 }
