@@ -17,7 +17,7 @@ use Rattle.point_model.specs.declared.entry.Entry.{Entry}
 use Rattle.point_model.specs.declared.entry.Entry.TheVariants.{Write}
 use Rattle.point_model.proofs.HistoryLemmas.{same_state, state_after-append}
 use Rattle.store_trait.specs.Calls.Write.{Accepts, IsOpen, FitsSeries, PassesSeries, PassesCache, WriteHasCause}
-use Rattle.store_trait.specs.Calls.View.{Begins}
+use Rattle.store_trait.specs.Calls.View.{Begins, Ends, without}
 use Rattle.store_trait.specs.Plain.{entries_of}
 use Rattle.store_trait.specs.Told.{IsAlike, Keeps, last_number, numbers_from}
 use Rattle.store_trait.specs.declared.fault.WriteFault.{WriteFault}
@@ -88,10 +88,10 @@ made-last (first ∷ made) one = ap (λ (es : List Entry). first.entry ∷ es) (
 pub one_out : (views : ℕ) → replicate {A = ℕ} (views + 1) 0 ≡ 0 ∷ replicate views 0
 one_out views = let e : views + 1 ≡ suc views = omega arith in ap (λ (n : ℕ). replicate {A = ℕ} n 0) e
 
-module _ {D R W : Type 0} (g : Ghosts D R W) (WasSound : Type 0) (since : ℕ) (start : State) (first : List (List ℕ)) (client : ℕ) where
+module _ {D R W : Type 0} (g : Ghosts D R W) (WasSound : ℕ → Type 0) (start : State) (first : List (List ℕ)) (client : ℕ) where
   -- At the start.
-  pub holds_none : (shard : Shard D) → IsReady g shard → state_of shard ≡ start → shard.logs.series.keys ≡ first → (IsTrue g.tells → WasSound → HasRun g start since [] shard)
-      → Holds g WasSound since start first client [] shard
+  pub holds_none : (shard : Shard D) → IsReady g shard → state_of shard ≡ start → shard.logs.series.keys ≡ first → (IsTrue g.tells → (since : ℕ) → WasSound since → HasRun g start since [] shard)
+      → Holds g WasSound start first client [] shard
   holds_none shard ready at series ran = record {
     ready = ready;
     state = at ∙ same_state _ _ _ _ refl (omega arith);
@@ -103,17 +103,17 @@ module _ {D R W : Type 0} (g : Ghosts D R W) (WasSound : Type 0) (since : ℕ) (
 
   -- Views change nothing but their count.
   pub holds_views : (views : ℕ) (batches : List (Snapshot (List Point))) (shard : Shard D) → views ≤ shard.settings.views
-      → Holds g WasSound since start first client batches shard → Holds g WasSound since start first client batches (record shard { views = views })
+      → Holds g WasSound start first client batches shard → Holds g WasSound start first client batches (record shard { views = views })
   holds_views views batches shard few holds = record {
     ready = record { logs = holds.ready.logs; views = few };
     state = holds.state;
     more = holds.more;
     series = holds.series;
     held = holds.held;
-    ran = λ tells sound. let was = holds.ran tells sound in record { made = was.made; are = was.are; refused = was.refused; doubt = was.doubt; runs = record { logs = was.runs.logs; points = was.runs.points } };
+    ran = λ tells since sound. let was = holds.ran tells since sound in record { made = was.made; are = was.are; refused = was.refused; doubt = was.doubt; runs = record { logs = was.runs.logs; points = was.runs.points } };
   }
 
-  pub begins : (need : Need) (shown : Shown) (batches : List (Snapshot (List Point))) (old : Shard D) → Holds g WasSound since start first client batches old → Lends need shown old
+  pub begins : (need : Need) (shown : Shown) (batches : List (Snapshot (List Point))) (old : Shard D) → Holds g WasSound start first client batches old → Lends need shown old
       → Begins need shown 0 false (told_of client start first batches old) (told_of client start first batches (record old { views = old.views + 1 }))
   begins need shown batches old holds lends = record {
     number = lends.number ∙ ap (λ (s : State). s.number) holds.state;
@@ -126,31 +126,38 @@ module _ {D R W : Type 0} (g : Ghosts D R W) (WasSound : Type 0) (since : ℕ) (
     unlimited_is_whole = λ none. refl;
   }
 
+  pub ended : (views : ℕ) (batches : List (Snapshot (List Point))) (old : Shard D) → old.views ≡ views + 1
+      → Ends 0 (told_of client start first batches old) (told_of client start first batches (record old { views = views }))
+  ended views batches old is = record {
+    own = refl;
+    out = sym (ap (λ (n : ℕ). without 0 (replicate {A = ℕ} n 0)) is ∙ ap (λ (l : List ℕ). without 0 l) (one_out views));
+  }
+
   -- A refusal leaves the entries.
-  pub holds_same : (batches : List (Snapshot (List Point))) (old new : Shard D) (points : List Point) (Fault : Type 0) → Holds g WasSound since start first client batches old
+  pub holds_same : (batches : List (Snapshot (List Point))) (old new : Shard D) (points : List Point) (Fault : Type 0) → Holds g WasSound start first client batches old
       → state_of new ≡ state_of old → steps.Keeps old new → IsReady g new
       → (IsTrue g.tells → (start : State) (since : ℕ) (made : List Made) (refused : List Entry) (doubt : Option Entry) → Runs g old start since made refused doubt
       → (tried : List Entry) × (left : Option Entry) × steps.IsTried Fault (Write client points) refused doubt tried left × Runs g new start since made tried left)
-      → Holds g WasSound since start first client batches new
+      → Holds g WasSound start first client batches new
   holds_same batches old new points Fault holds same kept ready stays = record {
     ready = ready;
     state = same ∙ holds.state;
     more = holds.more ++ kept.more;
     series = kept.series ∙ ap (λ (l : List (List ℕ)). l ++ kept.more) holds.series ∙ append_assoc first holds.more kept.more;
     held = subst (λ (l : List (List ℕ)). AllByRecursion (λ (batch : Snapshot (List Point)). AreHeld l batch.value) batches) (sym kept.series) (all_longer old.logs.series.keys kept.more batches holds.held);
-    ran = λ tells sound.
-        let was = holds.ran tells sound in
+    ran = λ tells since sound.
+        let was = holds.ran tells since sound in
         let now = stays tells start since was.made was.refused was.doubt was.runs in
         record { made = was.made; are = was.are; refused = now.0; doubt = now.1; runs = now.3 };
   }
 
   -- An entry more.
-  pub holds_more : (batches more : List (Snapshot (List Point))) (one : Snapshot (List Point)) (old new : Shard D) (points : List Point) (number : ℕ) → Holds g WasSound since start first client batches old
+  pub holds_more : (batches more : List (Snapshot (List Point))) (one : Snapshot (List Point)) (old new : Shard D) (points : List Point) (number : ℕ) → Holds g WasSound start first client batches old
       → steps.Adds client points number old new → steps.Keeps old new → IsReady g new
       → (IsTrue g.tells → (start : State) (since : ℕ) (made : List Made) (refused : List Entry) (doubt : Option Entry) → Runs g old start since made refused doubt
       → Runs g new start since (made ++ record { entry = Write client points; moment = (g.crashes new.logs.disk).moment } ∷ []) refused None)
       → one.value ≡ points → more ≡ batches ++ one ∷ []
-      → Holds g WasSound since start first client more new
+      → Holds g WasSound start first client more new
   holds_more batches more one old new points number holds adds kept ready goes value is = record {
     ready = ready;
     state = adds.state ∙ ap (λ (s : State). state_after s (Write client points ∷ [])) holds.state ∙ sym (state_after-append start (entries_of client batches) (Write client points ∷ []))
@@ -161,8 +168,8 @@ module _ {D R W : Type 0} (g : Ghosts D R W) (WasSound : Type 0) (since : ℕ) (
         (all_pushed new.logs.series.keys batches one
         (subst (λ (l : List (List ℕ)). AllByRecursion (λ (batch : Snapshot (List Point)). AreHeld l batch.value) batches) (sym kept.series) (all_longer old.logs.series.keys kept.more batches holds.held))
         (subst (λ (ps : List Point). AreHeld new.logs.series.keys ps) (sym value) adds.held));
-    ran = λ tells sound.
-        let was = holds.ran tells sound in
+    ran = λ tells since sound.
+        let was = holds.ran tells since sound in
         let last : Made = record { entry = Write client points; moment = (g.crashes new.logs.disk).moment } in
         record {
           made = was.made ++ last ∷ [];
@@ -176,7 +183,7 @@ module _ {D R W : Type 0} (g : Ghosts D R W) (WasSound : Type 0) (since : ℕ) (
       history : entries_of client more ≡ entries_of client batches ++ Write client points ∷ []
       history = ap (λ (bs : List (Snapshot (List Point))). entries_of client bs) is ∙ entries-last client batches one ∙ ap (λ (ps : List Point). entries_of client batches ++ Write client ps ∷ []) value
 
-  pub accepts : (batches more : List (Snapshot (List Point))) (one : Snapshot (List Point)) (old new : Shard D) (points : List Point) (number : ℕ) → Holds g WasSound since start first client batches old
+  pub accepts : (batches more : List (Snapshot (List Point))) (one : Snapshot (List Point)) (old new : Shard D) (points : List Point) (number : ℕ) → Holds g WasSound start first client batches old
       → steps.Adds client points number old new → steps.Keeps old new → one.value ≡ points → more ≡ batches ++ one ∷ []
       → Accepts points number (told_of client start first batches old) (told_of client start first more new)
   accepts batches more one old new points number holds adds kept value is = record {
@@ -222,7 +229,7 @@ module _ {D R W : Type 0} (g : Ghosts D R W) (WasSound : Type 0) (since : ℕ) (
   alike batches old new kept = record { own = refl; out = ap (λ (n : ℕ). replicate n 0) kept.views }
 
   -- Why a batch was refused.
-  module _ (batches : List (Snapshot (List Point))) (old new : Shard D) (points : List Point) (holds : Holds g WasSound since start first client batches old) (kept : steps.Keeps old new) where
+  module _ (batches : List (Snapshot (List Point))) (old new : Shard D) (points : List Point) (holds : Holds g WasSound start first client batches old) (kept : steps.Keeps old new) where
     history : List Entry
     history = entries_of client batches
 

@@ -22,12 +22,12 @@ pub record HasRun {D R W : Type 0} (g : Ghosts D R W) (start : State) (since : �
   pub runs : Runs g shard start since made refused doubt
 
 -- The engine is ready, and its points and number are those behind the batches. It holds the series of the start and of each batch. Where
--- the disk was sound at the start, the engine ran from there.
-pub record Holds {D R W : Type 0} (g : Ghosts D R W) (IsSound : Type 0) (since : ℕ) (start : State) (first : List (List ℕ))
+-- the disk was sound since a moment, the engine ran since then.
+pub record Holds {D R W : Type 0} (g : Ghosts D R W) (IsSound : ℕ → Type 0) (start : State) (first : List (List ℕ))
     (client : ℕ) (batches : List (Snapshot (List Point))) (shard : Shard D) : Type 0 where
   pub ready : IsReady g shard
   pub state : state_of shard ≡ state_after start (entries_of client batches)
   pub more : List (List ℕ)
   pub series : shard.logs.series.keys ≡ first ++ more
   pub held : AllByRecursion (λ batch. AreHeld shard.logs.series.keys batch.value) batches
-  pub ran : IsTrue g.tells → IsSound → HasRun g start since (entries_of client batches) shard
+  pub ran : IsTrue g.tells → (since : ℕ) → IsSound since → HasRun g start since (entries_of client batches) shard

@@ -1,5 +1,5 @@
 // One client's store over an engine.
-ghost use Rattle.std.specs.Prelude.{◌≡◌, ◌<◌, ◌++◌, [], ◌∷◌, IsTrue, vec_len, vec_capacity};
+ghost use Rattle.std.specs.Prelude.{ℕ, ◌≡◌, ◌<◌, ◌++◌, [], ◌∷◌, IsTrue, vec_len, vec_capacity};
 ghost use Rattle.shard_calls.specs.Holds.{HasRun};
 ghost use Rattle.shard_calls.specs.Told.{told_of};
 ghost use Rattle.shard_steps.specs.Shards.{IsReady, state_of};
@@ -34,17 +34,17 @@ impl<D: EngineDisk, B: Site> Model for Alone<D, B> {
 
     ghost view = { λ s. record { told = told_of s.client B.start B.series s.batches.items s.shard; health = D.Disk.health s.shard.logs.disk } };
 
-    ghost invariant = { λ s. Holds D.Disk B.is_sound B.since B.start B.series s.client s.batches.items s.shard };
+    ghost invariant = { λ s. Holds D.Disk B.is_sound B.start B.series s.client s.batches.items s.shard };
 }
 
 impl<D: EngineDisk, B: Site> Alone<D, B> {
-    /// A store over an engine that is at its start. Where its disk was sound, the engine ran from there without an entry.
+    /// A store over an engine that is at its start. Where its disk is sound since a moment, the engine ran since then without an entry.
     pub fn new(alloc: Global, client: u32, shard: Shard<D>) -> Alone<D, B>
         requires ready { IsReady D.Disk shard }
         requires unlent { shard.views ≡ 0 }
         requires start { state_of shard ≡ B.start }
         requires series { shard.logs.series.keys ≡ B.series }
-        requires sound { IsTrue D.Disk.tells → B.is_sound → HasRun D.Disk B.start B.since [] shard }
+        requires sound { IsTrue D.Disk.tells → (since : ℕ) → B.is_sound since → HasRun D.Disk B.start since [] shard }
         ensures told { result.told ≡ told_of client B.start B.series [] shard }
         ensures health { result.health ≡ D.Disk.health shard.logs.disk }
     {
@@ -56,10 +56,10 @@ impl<D: EngineDisk, B: Site> Alone<D, B> {
         }
     }
 
-    /// Gives the engine back. Where its disk was sound at the start, it ran from there to the entries that the store tells.
+    /// Gives the engine back. Where its disk was sound since a moment before the start, it ran since then to the entries that the store tells.
     pub fn into_shard(self) -> Shard<D>
         ensures ready { IsReady D.Disk result }
-        ensures ran { IsTrue D.Disk.tells → B.is_sound → HasRun D.Disk B.start B.since self.told.history result }
+        ensures ran { IsTrue D.Disk.tells → (since : ℕ) → B.is_sound since → HasRun D.Disk B.start since self.told.history result }
         ensures health { self.health ≡ D.Disk.health result.logs.disk }
     {
         let Alone {

@@ -12,11 +12,8 @@ pub trait Site {
     /// The series that are held.
     ghost series: { List (List ℕ) };
 
-    /// The moment from which on the history is told.
-    ghost since: { ℕ };
-
-    /// What has to hold of the disk for the history to be durable.
-    ghost is_sound: { Type 0 };
+    /// What has to hold of the disk for the history to be durable since a moment.
+    ghost is_sound: { ℕ → Type 0 };
 }
 
 impl Site for Brand {
@@ -27,7 +24,5 @@ impl Site for Brand {
 
     ghost series = { [] };
 
-    ghost since = { 0 };
-
-    ghost is_sound = { ⊤ };
+    ghost is_sound = { λ _. ⊤ };
 }

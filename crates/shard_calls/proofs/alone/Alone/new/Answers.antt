@@ -8,5 +8,5 @@ use Rattle.shard_calls.proofs.alone.Alone.new.Goals as goal
 
 pub invariant_of-result : goal.invariant_of-result
 invariant_of-result g c =
-    subst (λ (bs : List (Snapshot (List Point))). Holds g.D.Disk g.B.Site.is_sound g.B.Site.since g.B.Site.start g.B.Site.series c.args.client bs c.args.shard) (sym c.new.ensures.items)
-    (holds_none g.D.Disk g.B.Site.is_sound g.B.Site.since g.B.Site.start g.B.Site.series c.args.client c.args.shard c.requires.ready c.requires.start c.requires.series c.requires.sound)
+    subst (λ (bs : List (Snapshot (List Point))). Holds g.D.Disk g.B.Site.is_sound g.B.Site.start g.B.Site.series c.args.client bs c.args.shard) (sym c.new.ensures.items)
+    (holds_none g.D.Disk g.B.Site.is_sound g.B.Site.start g.B.Site.series c.args.client c.args.shard c.requires.ready c.requires.start c.requires.series c.requires.sound)
