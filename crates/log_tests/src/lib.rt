@@ -7,4 +7,6 @@ mod gates;
 #[cfg(test)]
 mod manifests;
 #[cfg(test)]
+mod segments;
+#[cfg(test)]
 mod series;

@@ -48,7 +48,7 @@ manifest_image files crashes log named keeps c now =
     log_image files crashes log (bodies_of keeps.edits) None manifest (IsClosedLog (IsManifest named)) keeps.file keeps.gate keeps.stands
     (λ bytes is. (gated_manifest bytes keeps.edits named keeps.some keeps.lead keeps.segment is, closed (bodies_of keeps.edits) bytes (lead_fit keeps.edits keeps.lead.written) is)) c now
 
-closed_series : (records series : List (List ℕ)) (bytes : List ℕ) → Hold records series → IsGated records bytes → IsClosedLog (IsSeriesFile series) bytes
+pub closed_series : (records series : List (List ℕ)) (bytes : List ℕ) → Hold records series → IsGated records bytes → IsClosedLog (IsSeriesFile series) bytes
 closed_series records series bytes hold gated = (records_file bytes records series hold gated, closed records bytes (hold_fit records [] series hold) gated)
 
 -- records of series, with at most one of these more

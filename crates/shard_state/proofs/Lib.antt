@@ -1,4 +1,6 @@
+pub mod Alike
 pub mod Counting
+pub mod Creating
 pub mod Elsewhere
 pub mod Ending
 pub mod Entering
@@ -6,5 +8,6 @@ pub mod GoingOn
 pub mod Histories
 pub mod Images
 pub mod Leaving
+pub mod Naming
 pub mod Standing
 pub mod Steps

@@ -1,6 +1,7 @@
 pub mod Books
 pub mod Calls
 pub mod Crashes
+pub mod Creating
 pub mod Engine
 pub mod History
 pub mod Keeping

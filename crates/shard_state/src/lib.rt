@@ -4,11 +4,13 @@
 
 mod closing;
 mod enter;
+mod first_files;
 mod laws;
 mod logs;
 mod prepare;
 
 pub use closing::close;
+pub use first_files::create;
 pub use laws::{crashes_keep_entries, histories_go_on};
 pub use logs::Logs;
 pub use prepare::Prepared;

@@ -1,0 +1,57 @@
+-- What removing other files leaves.
+use Rattle.std.proofs.Common.{◌≡◌, ◌≢◌, ℕ, nat_eq, List, false, refl, sym, ap, ◌∙◌, subst, true, Option, IsTrue}
+use Rattle.std.specs.List.{list_any}
+use Rattle.std.specs.FinMap.{get}
+use Rattle.std.proofs.lemmas.Bool.{false≢true}
+use Rattle.shard_disk.specs.Crash.{Follows, Leaves, Same}
+use Rattle.shard_disk.specs.Directory.{Directory, ChangesAt, Step}
+use Rattle.shard_disk.specs.HandedOut.{HandedOut, GivesUp}
+use Rattle.shard_disk.specs.declared.disk.Disk.{Ghosts}
+use Rattle.shard_disk.proofs.Runs.{NoneBefore, joins, rests, starts, weakens}
+use Rattle.shard_recover.specs.Opening.{IsAmong, Removes, Spares}
+
+-- a file that isn't one of these is another than each of them
+pub other : (keep : List ℕ) (number n : ℕ) → list_any (λ y. nat_eq y number) keep ≡ false → IsAmong keep n → n ≢ number
+other keep number n none among is = false≢true (sym none ∙ subst (λ (x : ℕ). list_any (λ y. nat_eq y x) keep ≡ true) is among)
+
+spares_other : (keep : List ℕ) (number : ℕ) (step : Step) (old new : Directory) → list_any (λ y. nat_eq y number) keep ≡ false → ChangesAt number step old new → Spares keep old new
+spares_other keep number step old new none made n among = made.others n (other keep number n none among)
+
+pub removes_none : {D R W : Type 0} (g : Ghosts D R W) (keep : List ℕ) (disk : D) → NoneBefore (g.crashes disk) → Removes g keep disk disk
+removes_none g keep disk none = record {
+  files = λ told n among. refl;
+  crash = rests (Spares keep) (g.crashes disk) none (λ c now n among. refl);
+  adopted = λ n among. refl;
+  readers = refl;
+  next = refl;
+}
+
+pub removes_one : {D R W : Type 0} (g : Ghosts D R W) (keep : List ℕ) (old new : D) (number : ℕ) (step more : Step) → ((o : Option (List ℕ)) → more o o) → NoneBefore (g.crashes old) → list_any (λ y. nat_eq y number) keep ≡ false
+    → (IsTrue g.tells → ChangesAt number step (g.files old) (g.files new)) → Follows (ChangesAt number more) (g.crashes old) (g.crashes new) → GivesUp number (g.handed_out old) (g.handed_out new) → Removes g keep old new
+removes_one g keep old new number step more still none others made call gone = record {
+  files = λ told. spares_other keep number step (g.files old) (g.files new) others (made told);
+  crash = weakens (ChangesAt number more) (Spares keep) (g.crashes old) (g.crashes new) (λ d c now change. spares_other keep number more d c others change)
+      (starts (ChangesAt number more) (g.crashes old) (g.crashes new) none (λ c. record { here = still (get c number); others = λ n ne. refl }) call);
+  adopted = λ n among. gone.others n (other keep number n others among);
+  readers = gone.readers;
+  next = gone.next;
+}
+
+pub removes_then : {D R W : Type 0} (g : Ghosts D R W) (keep : List ℕ) (old mid new : D) → Removes g keep old mid → Removes g keep mid new → Removes g keep old new
+removes_then g keep old mid new first second = record {
+  files = λ told n among. second.files told n among ∙ first.files told n among;
+  crash = joins (Spares keep) (Spares keep) (Spares keep) (g.crashes old) (g.crashes mid) (g.crashes new) (λ d c made. made) (λ d c e one two n among. two n among ∙ one n among) first.crash second.crash;
+  adopted = λ n among. second.adopted n among ∙ first.adopted n among;
+  readers = second.readers ∙ first.readers;
+  next = second.next ∙ first.next;
+}
+
+-- nothing was done
+pub removes_same : {D R W : Type 0} (g : Ghosts D R W) (keep : List ℕ) (old new : D) → g.files new ≡ g.files old → Leaves Same (g.crashes old) (g.crashes new) → g.handed_out new ≡ g.handed_out old → Removes g keep old new
+removes_same g keep old new same run handed = record {
+  files = λ told n among. ap (λ (f : Directory). get f n) same;
+  crash = weakens Same (Spares keep) (g.crashes old) (g.crashes new) (λ d c now is n among. ap (λ (f : Directory). get f n) is) run;
+  adopted = λ n among. ap (λ (h : HandedOut). h.adopted n) handed;
+  readers = ap (λ (h : HandedOut). h.readers) handed;
+  next = ap (λ (h : HandedOut). h.next_number) handed;
+}
