@@ -1,10 +1,9 @@
 -- Columns that fit, and the room of a record.
-use Rattle.std.proofs.Common.{◌≡◌, ◌⊎◌, ⊎_elim, inl, inr, ℕ, zero, suc, ◌+◌, ◌^◌, ◌<◌, ◌≤◌, Bool, true, false, not, ◌&&◌, List, [], ◌∷◌, ◌++◌, length, drop, filter, cond, refl, sym, ap, ◌∙◌, subst, arith, Option, None, Some, is_some, slice_get, Result, Ok, Err, if◌then◌else◌}
-use Rattle.std.specs.Prelude.{◌↔◌, IfNone, IfOk, Contains, IsTrue}
-use Rattle.std.specs.List.{All, AllByRecursion}
+use Rattle.std.proofs.Common.{◌≡◌, ◌⊎◌, ⊎_elim, inl, inr, ℕ, zero, suc, ◌+◌, ◌^◌, ◌<◌, ◌≤◌, Bool, true, false, not, List, [], ◌∷◌, length, filter, cond, refl, sym, subst, arith, Option, None, Some, is_some, slice_get, Result, Ok, Err}
+use Rattle.std.specs.Prelude.{◌↔◌, IfNone, IfOk, Contains}
+use Rattle.std.specs.List.{AllByRecursion}
 use Rattle.std.specs.Str.{bytes_eq}
 use Rattle.std.proofs.lemmas.Bool.{false≢true}
-use Rattle.std.proofs.lemmas.List.Elements.{All-contains}
 use Rattle.tsdb_types.specs.Columns.{column_of, columns_of, is_same_column}
 use Rattle.tsdb_types.specs.Keys.{IsCutShort, IsFirstMark, IsTooLong, key_of}
 use Rattle.tsdb_types.specs.declared.column.Column.{Column}
@@ -13,7 +12,7 @@ use Rattle.tsdb_types.specs.declared.key.KeyFault.TheVariants as key_fault
 use Rattle.tsdb_types.specs.declared.point.Point.{Point}
 use Rattle.tsdb_types.proofs.ColumnLemmas.{same-equal}
 use Rattle.point_model.specs.Acceptance.{IsKeyed}
-use Rattle.point_model.specs.Sizes.{goes_on, head_length, point_length, runs_length}
+use Rattle.point_model.specs.Sizes.{runs_length}
 use Rattle.shard_state.specs.Meaning.{AreHeld}
 use Rattle.shard_opening.specs.Columns.{IsFit, length_before}
 use Rattle.indexmap.proofs.CallerLemmas.{Contains-list_any}

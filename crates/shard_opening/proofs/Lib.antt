@@ -1,2 +1,3 @@
 mod FitLemmas
 mod KindLemmas
+mod OpenedLemmas

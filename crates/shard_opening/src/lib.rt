@@ -3,6 +3,9 @@
 #![tactic(auto)]
 
 mod kinds;
+mod opening;
 mod taking;
 
-pub use taking::{TakeFault, take_in};
+pub use gate_log::LogFault as OpenFault;
+pub use opening::{close, open};
+pub use taking::{TakeFault, take_all, take_in};

@@ -1,13 +1,9 @@
 -- One point more is noted, or its field has two kinds.
-use Rattle.std.proofs.Common.{◌≡◌, ◌+◌, ◌≤◌, ◌<◌, ◌++◌, ◌∷◌, [], ℕ, List, take, drop, drop-cons, Bool, true, false, length, refl, sym, ap, subst, ◌∙◌, arith}
+use Rattle.std.proofs.Common.{List, take, Bool, sym, subst}
 use Rattle.std.specs.Prelude.{Contains}
 use Rattle.std.proofs.lemmas.List.{take_all}
 use Rattle.std.proofs.lemmas.List.Elements.{Contains-get_or}
 use Rattle.tsdb_types.specs.declared.point.Point.{Point}
-use Rattle.tsdb_types.specs.declared.value.Kind.{Kind}
-use Rattle.std.specs.BTreeMap.{BTreeMap}
-use Rattle.point_model.specs.Acceptance.{HasOneKind}
-use Rattle.point_model.specs.Cursors.{Key}
 use Rattle.point_cache.proofs.OrderLemmas.{take_item}
 use Rattle.shard_opening.specs.Kinds.{Notes}
 use Rattle.shard_opening.proofs.KindLemmas.{AreNoted, front_within, noted_more, none_noted, one_kind, several}

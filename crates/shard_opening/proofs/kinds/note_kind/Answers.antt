@@ -1,10 +1,10 @@
 -- The field's kind was noted, or is noted now.
 use Rattle.std.proofs.Common.{◌≡◌, ◌⊎◌, ◌∙◌, ap, sym, refl, subst, inl, Some, None}
-use Rattle.std.specs.BTreeMap.{BTreeMap, get}
+use Rattle.std.specs.BTreeMap.{get}
 use Rattle.tsdb_types.specs.declared.value.Kind.{Kind}
 use Rattle.point_model.specs.Cursors.{Key, key_cmp}
 use Rattle.point_model.specs.Measurements.{measurement_head}
-use Rattle.shard_opening.specs.Kinds.{Notes, field_of}
+use Rattle.shard_opening.specs.Kinds.{field_of}
 use Rattle.shard_opening.proofs.KindLemmas.{others_stay}
 use Rattle.shard_opening.proofs.kinds.note_kind.Goals as goal
 

@@ -1,5 +1,5 @@
 -- The series is held, and the key of the column is a key.
-use Rattle.std.proofs.Common.{◌≡◌, ◌∙◌, Bool, true, false, not, sym, ap, refl}
+use Rattle.std.proofs.Common.{◌∙◌, not, ap, refl}
 use Rattle.shard_opening.proofs.FitLemmas.{fits_none, held_at, unfit_some}
 use Rattle.shard_opening.proofs.taking.column_fits.Goals as goal
 

@@ -1,9 +1,8 @@
 -- The columns, the record and the kinds fit, or one of them doesn't.
-use Rattle.std.proofs.Common.{◌≡◌, ◌≤◌, ◌<◌, ℕ, List, true, false, refl, sym, ap, subst, ◌∙◌, arith}
+use Rattle.std.proofs.Common.{◌≤◌, ℕ, List, sym, subst}
 use Rattle.std.specs.List.{AllByRecursion}
 use Rattle.std.proofs.lemmas.List.Elements.{All-from_recursion, recursion_from_All}
 use Rattle.tsdb_types.specs.Columns.{columns_of}
-use Rattle.tsdb_types.specs.declared.column.Column.{Column}
 use Rattle.tsdb_types.specs.declared.point.Point.{Point}
 use Rattle.point_model.specs.Acceptance.{HasOneKind, IsKeyed, IsWritable}
 use Rattle.point_model.specs.Sizes.{most_bytes, write_length}
@@ -29,11 +28,14 @@ returns-clause-fit c =
     let each = of_columns (IsFit held) batch columns in
     let room : write_length batch ≤ most_bytes = subst (λ (l : List Point). write_length l ≤ most_bytes) c.points.ensures.points (c.has_room.ensures.room c.if-not-has_room.false) in
     if_ok_then c.has_one_kind.result
-    (λ one kinds is. (held_of held batch each, record {
-      one_kind = subst HasOneKind c.points-2.ensures.points (kinds is);
-      keyed = All-from_recursion IsKeyed batch (keyed_of held batch each);
-      fits = room;
-    }))
+    (λ one kinds is. (
+      held_of held batch each,
+      record {
+        one_kind = subst HasOneKind c.points-2.ensures.points (kinds is);
+        keyed = All-from_recursion IsKeyed batch (keyed_of held batch each);
+        fits = room;
+      },
+    ))
     c.has_one_kind.ensures.one
 
 pub returns-clause-unfit : goal.returns-clause-unfit
