@@ -1,0 +1,5 @@
+mod FilterLemmas
+mod MergeLemmas
+mod FindLemmas
+mod TagLemmas
+mod StackLemmas

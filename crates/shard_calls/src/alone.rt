@@ -1,0 +1,112 @@
+// One client's store over an engine.
+ghost use Rattle.std.specs.Prelude.{ℕ, ◌≡◌, ◌<◌, ◌++◌, [], ◌∷◌, IsTrue, vec_len, vec_capacity};
+ghost use Rattle.shard_calls.specs.Holds.{HasRun};
+ghost use Rattle.shard_calls.specs.Told.{told_of};
+ghost use Rattle.shard_steps.specs.Shards.{IsReady, state_of};
+
+use crate::{EngineDisk, Site};
+use point_model::Need;
+use shard_steps::{Shard, begin_view, end_view};
+use std::alloc::Global;
+use std::marker::{Model, PhantomData};
+use std::snapshot::Snapshot;
+use store_trait::{ListView, Store, ViewFault, WriteFault};
+use tsdb_types::Batch;
+
+/// An engine that one client has for itself. Its entries are the batches that it accepted, in their order. A contract sees what it
+/// tells, and the health of its disk.
+pub struct Alone<D: EngineDisk, B: Site> {
+    client: u32,
+    batches: Vec<Snapshot<Batch>>,
+    shard: Shard<D>,
+    site: PhantomData<B>,
+}
+
+impl<D: EngineDisk, B: Site> Model for Alone<D, B> {
+    ghost use Rattle.shard_calls.specs.Holds.{Holds};
+    ghost use Rattle.shard_calls.specs.Told.{Seen, told_of};
+    ghost use Rattle.point_model.specs.ConditionCode.{condition_code};
+    ghost use Rattle.std.specs.Coded.{codes};
+
+    ghost Value = { Seen };
+
+    ghost coded = { Prim.hlevel (codes, condition_code) };
+
+    ghost view = { λ s. record { told = told_of s.client B.start B.series s.batches.items s.shard; health = D.Disk.health s.shard.logs.disk } };
+
+    ghost invariant = { λ s. Holds D.Disk B.is_sound B.start B.series s.client s.batches.items s.shard };
+}
+
+impl<D: EngineDisk, B: Site> Alone<D, B> {
+    /// A store over an engine that is at its start. Where its disk is sound since a moment, the engine ran since then without an entry.
+    pub fn new(alloc: Global, client: u32, shard: Shard<D>) -> Alone<D, B>
+        requires ready { IsReady D.Disk shard }
+        requires unlent { shard.views ≡ 0 }
+        requires start { state_of shard ≡ B.start }
+        requires series { shard.logs.series.keys ≡ B.series }
+        requires sound { IsTrue D.Disk.tells → (since : ℕ) → B.is_sound since → HasRun D.Disk B.start since [] shard }
+        ensures told { result.told ≡ told_of client B.start B.series [] shard }
+        ensures health { result.health ≡ D.Disk.health shard.logs.disk }
+    {
+        Alone {
+            client,
+            batches: Vec::new(alloc),
+            shard,
+            site: PhantomData,
+        }
+    }
+
+    /// Gives the engine back. Where its disk was sound since a moment before the start, it ran since then to the entries that the store tells.
+    pub fn into_shard(self) -> Shard<D>
+        ensures ready { IsReady D.Disk result }
+        ensures ran { IsTrue D.Disk.tells → (since : ℕ) → B.is_sound since → HasRun D.Disk B.start since self.told.history result }
+        ensures health { self.health ≡ D.Disk.health result.logs.disk }
+    {
+        let Alone {
+            client: _,
+            batches: _batches,
+            shard,
+            site: _,
+        } = self;
+        shard
+    }
+}
+
+impl<D: EngineDisk, B: Site> Store for Alone<D, B> {
+    type View = ListView;
+
+    ghost told = { λ s. s.told };
+
+    ghost health = { λ s. s.health };
+
+    fn write(&mut self, batch: &Batch) -> Result<u64, WriteFault> {
+        self.batches.reserve(1)?;
+        match D::write(&mut self.shard, self.client, batch) {
+            Ok(number) => {
+                note(&mut self.batches, Snapshot::of(batch));
+                Ok(number)
+            }
+            Err(fault) => Err(fault),
+        }
+    }
+
+    fn begin_view(&mut self, need: &Need) -> Result<ListView, ViewFault> {
+        begin_view(&mut self.shard, need)
+    }
+
+    fn end_view(&mut self, view: ListView) {
+        end_view(&mut self.shard, view);
+    }
+
+    fn number(&mut self) -> u64 {
+        self.shard.number()
+    }
+}
+
+/// Notes a batch where the room for it is there. It takes no bytes.
+fn note(batches: &mut Vec<Snapshot<Batch>>, batch: Snapshot<Batch>)
+    requires { vec_len batches.old < vec_capacity batches.old }
+    ensures { batches.new.items ≡ batches.old.items ++ batch ∷ [] }
+{
+    let _ = batches.push(batch);
+}
