@@ -7,3 +7,4 @@ pub mod SweepLemmas
 pub mod SpareLemmas
 pub mod SparedLemmas
 pub mod NewLemmas
+pub mod WrongLemmas

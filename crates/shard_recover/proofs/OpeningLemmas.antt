@@ -40,7 +40,7 @@ use Rattle.shard_recover.specs.Opening.{ReadsLogs}
 use Rattle.shard_recover.proofs.FileLemmas.{same_then}
 use Rattle.shard_recover.proofs.NamedLemmas.{named_apart, rows_apart}
 
-some_at : {X : Type 0} (P : X → Type 0) (o : Option X) (v : X) → o ≡ Some v → IsSomeAnd o P → P v
+pub some_at : {X : Type 0} (P : X → Type 0) (o : Option X) (v : X) → o ≡ Some v → IsSomeAnd o P → P v
 some_at P o v is had = subst (λ o'. IsSomeAnd o' P) is had
 
 -- two facts of one file
@@ -89,15 +89,15 @@ joined_last : (earlier : List (List Logged)) (latest : List Logged) → joined (
 joined_last earlier latest = flat_map-append (λ (x : List Logged). x) earlier (latest ∷ []) ∙ ap (λ (x : List Logged). joined earlier ++ x) (append-nil latest)
 
 -- segments have one list of entries each
-one_reading : (files : Directory) (segments : List ℕ) (some other : List (List Logged)) → HasSegments files segments some → HasSegments files segments other → some ≡ other
-one_reading files [] [] [] a b = refl
-one_reading files [] [] (y ∷ other) a b = absurd b
-one_reading files [] (x ∷ some) other a b = absurd a
-one_reading files (file ∷ segments) [] other a b = absurd a
-one_reading files (file ∷ segments) (x ∷ some) [] a b = absurd b
-one_reading files (file ∷ segments) (x ∷ some) (y ∷ other) a b =
+pub segments_once : (files : Directory) (segments : List ℕ) (some other : List (List Logged)) → HasSegments files segments some → HasSegments files segments other → some ≡ other
+segments_once files [] [] [] a b = refl
+segments_once files [] [] (y ∷ other) a b = absurd b
+segments_once files [] (x ∷ some) other a b = absurd a
+segments_once files (file ∷ segments) [] other a b = absurd a
+segments_once files (file ∷ segments) (x ∷ some) [] a b = absurd b
+segments_once files (file ∷ segments) (x ∷ some) (y ∷ other) a b =
     let head = both (IsSegment x) (IsSegment y) files file a.0 b.0 (λ bytes p q. one_segment x y bytes p q) in
-    let rest = one_reading files segments some other a.1 b.1 in
+    let rest = segments_once files segments some other a.1 b.1 in
     λ i. head i ∷ rest i
 
 segments_last : (files : Directory) (before : List ℕ) (earlier : List (List Logged)) (last : ℕ) (latest : List Logged) → HasSegments files before earlier → HasFile files last (IsSegment latest) → HasSegments files (before ++ last ∷ []) (earlier ++ latest ∷ [])
@@ -160,7 +160,7 @@ module _ (tells : Type 0) (told : tells) (files : Directory) (c0 c3 : Crashes) (
 
   same_segments : segments_read ≡ sound.stands.meaning.segments
   same_segments =
-      one_reading files named.segments segments_read sound.stands.meaning.segments have_segments
+      segments_once files named.segments segments_read sound.stands.meaning.segments have_segments
       (subst (λ (n : Named). HasSegments files n.segments sound.stands.meaning.segments) (sym same_named) sound.stands.says.segments)
 
   same_entries : entries ≡ sound.stands.meaning.entries

@@ -1,6 +1,7 @@
 -- What was read of a directory opens it.
 use Rattle.std.proofs.Common.{◌≡◌, inl, inr, ⊎_elim, ℕ, ◌+◌, List, [], length, refl, sym, ap, ◌∙◌, subst, arith, None, Some, IsTrue}
-use Rattle.std.specs.Prelude.{Ok}
+use Rattle.std.specs.Prelude.{Ok, Err}
+use Rattle.shard_disk.specs.declared.damage.Damage.{Damage}
 use Rattle.std.specs.declared.alloc.Global.{Global}
 use Rattle.shard_disk.specs.Crash.{Crashes, Leaves, Same}
 use Rattle.shard_disk.specs.Directory.{Directory, HasFile}
@@ -16,18 +17,19 @@ use Rattle.point_model.specs.declared.entry.Entry.{Entry}
 use Rattle.manifest_log.specs.declared.directory.Directory.{Directory as Named}
 use Rattle.manifest_log.specs.declared.manifest.Manifest.{Manifest}
 use Rattle.manifest_log.specs.Calls.{Finds as FindsNamed}
-use Rattle.manifest_log.specs.Reading.{IsFresh, IsManifest, bodies_of, manifest}
-use Rattle.manifest_log.proofs.OnceLemmas.{one_reading}
+use Rattle.manifest_log.specs.Reading.{IsFresh, IsManifest, Reads, bodies_of, manifest}
+use Rattle.manifest_log.proofs.OnceLemmas.{one_manifest, one_reading}
 use Rattle.series_store.specs.Calls.{Kept}
+use Rattle.wal_store.specs.Replay.{AreCounted, joined}
 use Rattle.wal_store.specs.Segments.{Segments}
 use Rattle.shard_state.specs.Books.{Books}
 use Rattle.shard_state.specs.Engine.{AreAdopted, IsReady}
 use Rattle.shard_state.specs.Keeping.{Keeps}
 use Rattle.shard_state.specs.Opening.{IsBlankAtOpening, IsNamedAtOpening, IsSoundAtOpening}
-use Rattle.shard_recover.specs.Opening.{Opens, ReadsLogs}
+use Rattle.shard_recover.specs.Opening.{IsSayable, Opens, ReadsLogs}
 use Rattle.shard_recover.proofs.FileLemmas.{same_then}
 use Rattle.shard_recover.proofs.NamedLemmas.{named_apart}
-use Rattle.shard_recover.proofs.OpeningLemmas.{logs_since, named_then, read_adopted, read_books, read_keeps, read_layers, read_state}
+use Rattle.shard_recover.proofs.OpeningLemmas.{both, logs_since, named_then, read_adopted, read_books, read_keeps, read_layers, read_state}
 
 -- a manifest was read as such
 pub found_manifest : (tells : Type 0) (told : tells) (found : Manifest) (named : Named) (files : Directory) (old new : Crashes) → FindsNamed tells found named files old new → HasFile files manifest (IsManifest named)
@@ -90,3 +92,24 @@ parts_open g told alloc old mid disk keeps found named kept wal entries number s
           },
           refl,
         )
+
+-- ---- a directory that is sound as it is opened isn't damaged
+
+pub sound_reads : {D R W : Type 0} (g : Ghosts D R W) (disk : D) (state : State) (damage : Damage) → IsSoundAtOpening g disk state → Reads (g.files disk) (Err damage) → ⊥
+sound_reads g disk state damage sound wrong = ⊎_elim
+    (λ blank. absurd (cc (one_reading (g.files disk) (Ok None) (Err damage) (blank_fresh (g.files disk) (g.crashes disk) (g.handed_out disk) blank.0) wrong)))
+    (λ named. absurd (cc (one_reading (g.files disk) (Ok (Some named.stands.meaning.named)) (Err damage) named.stands.says.manifest wrong)))
+    sound
+
+pub sound_says : {D R W : Type 0} (g : Ghosts D R W) (disk : D) (state : State) (named : Named) → HasFile (g.files disk) manifest (IsManifest named) → IsSoundAtOpening g disk state → IsSayable named (g.files disk)
+sound_says g disk state named is sound = ⊎_elim
+    (λ blank. absurd (fresh_unnamed (g.files disk) named (blank_fresh (g.files disk) (g.crashes disk) (g.handed_out disk) blank.0) is))
+    (λ s.
+    let same : s.stands.meaning.named ≡ named = both (IsManifest s.stands.meaning.named) (IsManifest named) (g.files disk) manifest s.stands.says.manifest is (λ bytes p q. one_manifest bytes s.stands.meaning.named named p q) in
+    record {
+      says = s.stands.meaning;
+      are = s.stands.says;
+      named_so = same;
+      counted = subst (λ (n : Named). AreCounted n.floor (joined s.stands.meaning.segments)) same s.stands.sound.holds.counted;
+    })
+    sound

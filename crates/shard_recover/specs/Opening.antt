@@ -13,12 +13,12 @@ use Rattle.manifest_log.specs.declared.directory.Directory.{Directory as Named}
 use Rattle.point_model.specs.Histories.{State}
 use Rattle.point_model.specs.declared.entry.Entry.{Entry}
 use Rattle.series_store.specs.Calls.{Finds, Kept}
-use Rattle.wal_store.specs.Replay.{Replays}
+use Rattle.wal_store.specs.Replay.{AreCounted, Replays, joined}
 use Rattle.wal_store.specs.Segments.{Segments}
 use Rattle.shard_state.specs.declared.logs.Logs.{Logs}
 use Rattle.shard_state.specs.Books.{Books, state_in}
 use Rattle.shard_state.specs.Crashes.{LeavesOnly}
-use Rattle.shard_state.specs.Meaning.{Stands}
+use Rattle.shard_state.specs.Meaning.{Meaning, Says, Stands}
 use Rattle.shard_state.specs.Opening.{IsSoundThroughout}
 use Rattle.manifest_log.specs.Reading.{manifest}
 use Rattle.shard_state.specs.Engine.{Holds, IsReady}
@@ -53,6 +53,13 @@ pub record ReadyParts {D R W : Type 0} (g : Ghosts D R W) (alloc : Global) (disk
   pub series_file : parts.named.series ≡ Some parts.series.log.file
   pub before : List ℕ
   pub segments : parts.named.segments ≡ before ++ parts.wal.log.file ∷ []
+
+-- the files that are named say something: series, entries that are counted from the floor, and no points in TSM files
+pub record IsSayable (named : Named) (files : Directory) : Type 0 where
+  pub says : Meaning
+  pub are : Says files says
+  pub named_so : says.named ≡ named
+  pub counted : AreCounted named.floor (joined says.segments)
 
 -- The series file and the segments that are named were read, one after another. No TSM file is named.
 pub record ReadsLogs (tells : Type 0) (named : Named) (kept : Kept) (wal : Segments) (entries : List Entry) (files : Directory) (crashes crashes' : Crashes) : Type 0 where

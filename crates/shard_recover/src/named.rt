@@ -1,11 +1,12 @@
 // Reading what a manifest names.
-ghost use Rattle.std.specs.Prelude.{◌≡◌, ◌≢◌, ◌≤◌, ◌++◌, ◌∷◌, [], IsTrue, IfOk, List, ℕ};
+ghost use Rattle.std.specs.Prelude.{◌≡◌, ◌≢◌, ◌≤◌, [], Err, IsTrue, IfOk, List};
 ghost use Rattle.std.specs.FinMap.{keys};
 ghost use Rattle.shard_disk.specs.Crash.{Leaves, Same};
 ghost use Rattle.gate_log.specs.Faults.{LogHasCause};
-ghost use Rattle.wal_store.specs.Replay.{Replays};
+ghost use Rattle.shard_disk.specs.declared.damage.Damage.{Damage};
+ghost use Rattle.wal_store.specs.Replay.{AreCounted, HasSegments, Logged, Replays, joined};
 ghost use Rattle.wal_store.specs.Segments.{last_number};
-ghost use Rattle.shard_recover.specs.Opening.{ReadsLogs};
+ghost use Rattle.shard_recover.specs.Opening.{IsSayable, ReadsLogs};
 
 use crate::present::{is_there, leading, list};
 use gate_log::LogFault;
@@ -27,6 +28,7 @@ pub fn read_named<D: Disk>(
 ) -> Result<(Series, Wal, Vec<Entry>), LogFault>
     requires some { named.now.segments ≢ [] }
     requires most { named.now.floor ≤ last_number }
+    ensures undamaged { (damage : Damage) → result ≡ Err (LogFault.Damaged damage) → IsTrue D.tells → IsSayable named.now (D.files disk.old) → ⊥ }
     ensures ok { IfOk result (λ read. ReadsLogs (IsTrue D.tells) named.now read.0 read.1 read.2.items (D.files disk.new) (D.crashes disk.old) (D.crashes disk.new)) }
     ensures fault { LogHasCause result (D.health disk.old) (D.health disk.new) }
     ensures files { D.files disk.new ≡ D.files disk.old }
@@ -59,6 +61,8 @@ fn read_segments<D: Disk>(
     requires some { named.now.segments ≢ [] }
     requires most { named.now.floor ≤ last_number }
     requires numbers { IsTrue D.tells → numbers.now ≡ keys (D.files disk.old) }
+    ensures undamaged { (damage : Damage) → result ≡ Err (LogFault.Damaged damage) → IsTrue D.tells → (logged : List (List Logged)) → HasSegments (D.files disk.old) named.now.segments logged
+        → AreCounted named.now.floor (joined logged) → ⊥ }
     ensures ok { IfOk result (λ read. Replays (IsTrue D.tells) named.now.floor named.now.segments read.0 read.1.items (D.files disk.new) (D.crashes disk.old) (D.crashes disk.new)) }
     ensures fault { LogHasCause result (D.health disk.old) (D.health disk.new) }
     ensures files { D.files disk.new ≡ D.files disk.old }

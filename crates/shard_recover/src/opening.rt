@@ -1,7 +1,8 @@
 // From a disk to the logs of an engine.
-ghost use Rattle.std.specs.Prelude.{◌≡◌, ◌∷◌, IsTrue, IfErr, IfNone, IfOk, IfSome};
+ghost use Rattle.std.specs.Prelude.{◌≡◌, ◌∷◌, Err, IsTrue, IfErr, IfNone, IfOk, IfSome};
 ghost use Rattle.shard_disk.specs.Crash.{Leaves, Same};
 ghost use Rattle.point_model.specs.Histories.{State, nothing};
+ghost use Rattle.shard_disk.specs.declared.damage.Damage.{Damage};
 ghost use Rattle.gate_log.specs.Faults.{LogHasCause};
 ghost use Rattle.manifest_log.specs.Reading.{IsFresh};
 ghost use Rattle.shard_disk.specs.Directory.{Directory as Files};
@@ -42,6 +43,8 @@ pub fn open<D: Disk>(alloc: Global, seed: Seed, disk: D) -> Result<Opened<D>, (D
     // A crash at any moment of the call leaves what stands for the same, where what one before would have left does.
     ensures crash { IfOk result (λ opened. LeavesState D.Disk disk opened.logs.disk) }
     ensures refused { IfErr result (λ refused. LeavesState D.Disk disk refused.0) }
+    // Over a disk that is sound at opening nothing is damaged.
+    ensures undamaged { IfErr result (λ refused. IsTrue D.tells → (state : State) → IsSoundAtOpening D.Disk disk state → (damage : Damage) → refused.1 ≡ LogFault.Damaged damage → ⊥) }
     ensures fault { HasOpeningCause result (D.health disk) D.health }
 {
     let mut disk = disk;
@@ -61,6 +64,7 @@ fn open_new<D: Disk>(alloc: Global, seed: Seed, disk: D) -> Result<Opened<D>, (D
     ensures ready { IfOk result (λ opened. IsReady D.Disk opened.logs) }
     ensures crash { IfOk result (λ opened. Creates D.Disk disk opened.logs.disk) }
     ensures refused { IfErr result (λ refused. Creates D.Disk disk refused.0) }
+    ensures undamaged { IfErr result (λ refused. IsTrue D.tells → (damage : Damage) → refused.1 ≡ LogFault.Damaged damage → ⊥) }
     ensures fault { HasOpeningCause result (D.health disk) D.health }
 {
     match create(alloc, seed, disk) {
@@ -81,6 +85,7 @@ pub(crate) fn read_parts<D: Disk>(
     ensures opens { IfOk result (λ found. IfSome found (λ parts. IsTrue D.tells → (state : State) → IsSoundAtOpening D.Disk disk.old state → OpensParts D.Disk state alloc disk.new parts)) }
     ensures ready { IfOk result (λ found. IfSome found (ReadyParts D.Disk alloc disk.new)) }
     ensures none { IfOk result (λ found. IfNone found (IsTrue D.tells → IsFresh (D.files disk.old))) }
+    ensures undamaged { (damage : Damage) → result ≡ Err (LogFault.Damaged damage) → IsTrue D.tells → (state : State) → IsSoundAtOpening D.Disk disk.old state → ⊥ }
     ensures fault { LogHasCause result (D.health disk.old) (D.health disk.new) }
     ensures files { D.files disk.new ≡ D.files disk.old }
     ensures crash { Leaves Same (D.crashes disk.old) (D.crashes disk.new) }
@@ -110,6 +115,7 @@ fn open_named<D: Disk>(alloc: Global, disk: D, parts: Parts) -> Result<Opened<D>
     ensures ready { IfOk result (λ opened. IsReady D.Disk opened.logs) }
     ensures crash { IfOk result (λ opened. IsTrue D.tells → (state : State) → OpensParts D.Disk state alloc disk parts → LeavesOnly (λ (c : Files). Stands c state) (D.crashes disk) (D.crashes opened.logs.disk)) }
     ensures refused { IfErr result (λ refused. IsTrue D.tells → (state : State) → OpensParts D.Disk state alloc disk parts → LeavesOnly (λ (c : Files). Stands c state) (D.crashes disk) (D.crashes refused.0)) }
+    ensures undamaged { IfErr result (λ refused. (damage : Damage) → refused.1 ≡ LogFault.Damaged damage → ⊥) }
     ensures fault { HasOpeningCause result (D.health disk) D.health }
 {
     let mut disk = disk;
@@ -134,6 +140,7 @@ fn open_named<D: Disk>(alloc: Global, disk: D, parts: Parts) -> Result<Opened<D>
 fn remove_unnamed<D: Disk>(alloc: Global, disk: &mut D, named: &Directory) -> Result<(), LogFault>
     requires unread { HasNoReader (D.handed_out disk.old) }
     ensures removes { Removes D.Disk (0 ∷ names named.now) disk.old disk.new }
+    ensures undamaged { (damage : Damage) → result ≡ Err (LogFault.Damaged damage) → ⊥ }
     ensures fault { LogHasCause result (D.health disk.old) (D.health disk.new) }
 {
     let keep = named.names(alloc)?;

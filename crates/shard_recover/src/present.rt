@@ -1,5 +1,5 @@
 // Which files are there?
-ghost use Rattle.std.specs.Prelude.{◌≡◌, ◌≢◌, ◌<◌, ◌≤◌, Err, IsTrue, IfOk, length, take, slice_get, Some, ℕ};
+ghost use Rattle.std.specs.Prelude.{◌≡◌, ◌≢◌, ◌<◌, ◌≤◌, Err, IsTrue, IfOk, length, take, get_or};
 ghost use Rattle.std.specs.FinMap.{keys};
 ghost use Rattle.std.specs.List.{AllByRecursion};
 ghost use Rattle.shard_disk.specs.Crash.{Leaves, Same};
@@ -35,6 +35,7 @@ pub fn is_there(numbers: &[u32], file: u32) -> bool
 pub fn leading(numbers: &[u32], files: &[u32]) -> usize
     ensures within { result ≤ length files.now }
     ensures there { (disk : Files) → numbers.now ≡ keys disk → AllByRecursion (IsPresent disk) (take result files.now) }
+    ensures missing { (disk : Files) → numbers.now ≡ keys disk → result < length files.now → IsPresent disk (get_or files.now result 0) → ⊥ }
 {
     let mut count = 0;
     for file in files {

@@ -1,5 +1,6 @@
 // Files that aren't named are removed.
-ghost use Rattle.std.specs.Prelude.{◌≡◌, IsTrue};
+ghost use Rattle.std.specs.Prelude.{◌≡◌, Err};
+ghost use Rattle.shard_disk.specs.declared.damage.Damage.{Damage};
 ghost use Rattle.gate_log.specs.Faults.{LogHasCause};
 ghost use Rattle.manifest_log.specs.Calls.{HasNoReader};
 ghost use Rattle.shard_recover.specs.Opening.{Removes};
@@ -11,6 +12,7 @@ use shard_disk::Disk;
 pub fn sweep<D: Disk>(disk: &mut D, numbers: &[u32], keep: &[u64]) -> Result<(), LogFault>
     requires unread { HasNoReader (D.handed_out disk.old) }
     ensures removes { Removes D.Disk keep.now disk.old disk.new }
+    ensures undamaged { (damage : Damage) → result ≡ Err (LogFault.Damaged damage) → ⊥ }
     ensures fault { LogHasCause result (D.health disk.old) (D.health disk.new) }
 {
     for number in numbers {
@@ -23,6 +25,7 @@ pub fn sweep<D: Disk>(disk: &mut D, numbers: &[u32], keep: &[u64]) -> Result<(),
 fn remove_other<D: Disk>(disk: &mut D, number: u32, keep: &[u64]) -> Result<(), LogFault>
     requires unread { HasNoReader (D.handed_out disk.old) }
     ensures removes { Removes D.Disk keep.now disk.old disk.new }
+    ensures undamaged { (damage : Damage) → result ≡ Err (LogFault.Damaged damage) → ⊥ }
     ensures fault { LogHasCause result (D.health disk.old) (D.health disk.new) }
 {
     if keep.contains(&(number as u64)) {

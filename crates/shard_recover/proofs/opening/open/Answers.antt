@@ -1,5 +1,6 @@
-use Rattle.std.proofs.Common.{sym, subst}
+use Rattle.std.proofs.Common.{sym, ap, subst, Err}
 use Rattle.shard_disk.specs.Directory.{Directory}
+use Rattle.gate_log.specs.declared.fault.LogFault.{LogFault}
 use Rattle.point_model.specs.Histories.{State}
 use Rattle.manifest_log.proofs.FollowLemmas.{if_some_at}
 use Rattle.shard_state.specs.Meaning.{Stands}
@@ -55,3 +56,6 @@ returns-in-Ok-None-clause-refused g c =
     (λ refused creates told state throughout.
     new_leaves g.D.Disk told c.args.disk c.read_parts.new.disk c.read_parts.ensures.files c.read_parts.ensures.crash c.read_parts.ensures.handed_out refused.0 state (if_none_at c.in-Ok-None.field-0 c.in-Ok-None.field-0-is c.in-Ok-None.ensures.none told) creates throughout)
     c.open_new.ensures.refused
+
+pub returns-in-Err-clause-undamaged : goal.returns-in-Err-clause-undamaged
+returns-in-Err-clause-undamaged g c = λ told state sound damage is. c.in-Err.ensures.undamaged damage (ap (λ (e : LogFault). Err e) is) told state sound

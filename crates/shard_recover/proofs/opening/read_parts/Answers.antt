@@ -1,7 +1,11 @@
-use Rattle.std.proofs.Common.{ℕ, ◌+◌, ◌∙◌, ◌++◌, ◌∷◌, [], Some, sym, ap}
+use Rattle.std.proofs.Common.{ℕ, ◌≡◌, ◌+◌, ◌∙◌, ◌++◌, ◌∷◌, [], Some, sym, ap, subst, Err}
+use Rattle.std.proofs.lemmas.Result.{err_from_is_err_and}
+use Rattle.gate_log.specs.declared.fault.LogFault.{LogFault}
+use Rattle.gate_log.specs.declared.fault.LogFault.TheVariants.{Damaged}
+use Rattle.shard_recover.specs.Opening.{IsSayable}
 use Rattle.manifest_log.proofs.FollowLemmas.{if_some_at}
 use Rattle.shard_recover.proofs.FileLemmas.{same_then}
-use Rattle.shard_recover.proofs.ReadLemmas.{parts_open, parts_ready}
+use Rattle.shard_recover.proofs.ReadLemmas.{found_manifest, parts_open, parts_ready, sound_reads, sound_says}
 use Rattle.shard_recover.proofs.opening.read_parts.Goals as goal
 
 pub returns-in_err-series-clause-crash : goal.returns-in_err-series-clause-crash
@@ -34,3 +38,18 @@ returns-clause-ready g c =
       before = reads.replays.before;
       segments = reads.replays.parts ∙ ap (λ (n : ℕ). reads.replays.before ++ n ∷ []) (sym reads.replays.log.file);
     }
+
+pub returns-in_err-manifest-clause-undamaged : goal.returns-in_err-manifest-clause-undamaged
+returns-in_err-manifest-clause-undamaged g c = λ damage is told state sound.
+    let p = err_from_is_err_and c.from_residual.result c.from_residual.ensures.1 in
+    let same : c.in_err-manifest.field-0.0 ≡ Damaged damage = cc (p.1, p.2, is) in
+    sound_reads g.D.Disk c.args.disk.now state damage sound (c.in_err-manifest.ensures.damaged damage (ap (λ (e : LogFault). Err e) same) told)
+
+pub returns-in_err-series-clause-undamaged : goal.returns-in_err-series-clause-undamaged
+returns-in_err-series-clause-undamaged g c = λ damage is told state sound.
+    let p = err_from_is_err_and c.from_residual-in_err-series.result c.from_residual-in_err-series.ensures.1 in
+    let same : c.in_err-series.field-0.0 ≡ Damaged damage = cc (p.1, p.2, is) in
+    let found = if_some_at _ c.in_ok-manifest.field-0 (c.in-Some.manifest, c.in-Some.named) c.in-Some.is c.in_ok-manifest.ensures.found in
+    c.in_err-series.ensures.undamaged damage (ap (λ (e : LogFault). Err e) same) told
+    (subst (IsSayable c.in-Some.named) (sym c.read.ensures.files)
+    (sound_says g.D.Disk c.args.disk.now state c.in-Some.named (found_manifest _ told c.in-Some.manifest c.in-Some.named (g.D.Disk.files c.args.disk.now) (g.D.Disk.crashes c.args.disk.now) (g.D.Disk.crashes c.read.new.disk) found) sound))

@@ -1,5 +1,6 @@
-use Rattle.std.proofs.Common.{ℕ, ◌+◌, refl, sym, ap, subst, take, slice_index_or, arith}
+use Rattle.std.proofs.Common.{ℕ, ◌+◌, refl, sym, ◌∙◌, ap, subst, take, slice_index_or, arith}
 use Rattle.std.specs.List.{AllByRecursion}
+use Rattle.std.proofs.lemmas.Bool.{false≢true}
 use Rattle.std.proofs.lemmas.List.{take_more}
 use Rattle.shard_disk.specs.Directory.{IsPresent}
 use Rattle.wal_store.proofs.ListLemmas.{all_push}
@@ -13,6 +14,10 @@ returns-then-not-is_there-clause-within c = omega (arith, c.loop-file.invariant.
 
 pub returns-then-not-is_there-clause-there : goal.returns-then-not-is_there-clause-there
 returns-then-not-is_there-clause-there c = λ disk is. subst (λ (n : ℕ). AllByRecursion (IsPresent disk) (take n c.args.files.now)) (sym c.loop-file.invariant.0) (c.loop-file.invariant.1 disk is)
+
+pub returns-then-not-is_there-clause-missing : goal.returns-then-not-is_there-clause-missing
+returns-then-not-is_there-clause-missing c = λ disk is within there.
+    c.is_there.ensures.missing (λ yes. false≢true (sym c.if-not-is_there.true ∙ yes)) disk is (subst (λ (n : ℕ). IsPresent disk (slice_index_or c.args.files.now n 0)) c.loop-file.invariant.0 there)
 
 pub loop-file-preserved : goal.loop-file-preserved
 loop-file-preserved c = (
