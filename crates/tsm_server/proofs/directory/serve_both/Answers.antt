@@ -1,11 +1,10 @@
 -- The client and the disk came back from `shell`, and were closed.
-use Rattle.std.proofs.Common.{◌≡◌, ◌∷◌, ◌++◌, [], List, Option, ap, ◌∙◌, append_assoc}
+use Rattle.std.proofs.Common.{◌∷◌, ◌++◌, [], List, Option, ap, ◌∙◌, append_assoc}
 use Rattle.session_io.specs.declared.client.Client.{Client}
 use Rattle.session_io.specs.declared.report.Report.{Report}
 use Rattle.session_io.specs.Clients.{closed_client}
 use Rattle.session_io.specs.Directories.{Left, OfClient, OfDir}
 use Rattle.engine_session.specs.declared.directory.ShellEnd.{ShellEnd}
-use Rattle.tsm_server.specs.Directories.{report_of}
 use Rattle.tsm_server.proofs.directory.serve_both.Goals as goal
 
 pub returns-clause-serves : goal.returns-clause-serves
