@@ -1,0 +1,3 @@
+pub mod LookLemmas
+pub mod ServedLemmas
+pub mod ShellLemmas

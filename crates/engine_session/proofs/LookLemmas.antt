@@ -1,0 +1,22 @@
+-- A look at a store that is alone makes no entry.
+use Rattle.std.proofs.Common.{◌≡◌, ◌∙◌, ap, sym, refl, ℕ, ◌+◌, List, [], ◌∷◌, ◌++◌, length, IsTrue, arith, append-nil, length-append}
+use Rattle.point_model.specs.declared.entry.Entry.{Entry}
+use Rattle.store_trait.specs.Told.{Told, Keeps, IsAlike, OwnsAll, numbers_from}
+
+count_numbers : (number : ℕ) (entries : List Entry) → length (numbers_from number entries) ≡ length entries
+count_numbers number [] = refl
+count_numbers number (entry ∷ entries) = let rest = count_numbers (number + 1) entries in omega (arith, rest)
+
+as_many : (told : Told) → OwnsAll told → length told.history ≡ length told.own
+as_many told owns = sym (ap length owns ∙ count_numbers (told.start.number + 1) told.history)
+
+none_since : (old since : List Entry) → length (old ++ since) ≡ length old → since ≡ []
+none_since old [] same = refl
+none_since old (entry ∷ since) same = absurd (let sum = length-append old (entry ∷ since) in omega (arith, sum, same))
+
+no_longer : (old since new : List Entry) → new ≡ old ++ since → length new ≡ length old → new ≡ old
+no_longer old since new begins same = begins ∙ ap (λ (l : List Entry). old ++ l) (none_since old since (sym (ap length begins) ∙ same)) ∙ append-nil old
+
+pub look_makes_none : (old new : Told) → Keeps old new → IsAlike old new → IsTrue new.is_alone → OwnsAll old → new.history ≡ old.history
+look_makes_none old new kept alike alone owns =
+    no_longer old.history kept.history.since new.history kept.history.begins (as_many new (kept.alone alone owns) ∙ ap length alike.own ∙ sym (as_many old owns))

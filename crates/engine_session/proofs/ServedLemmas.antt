@@ -1,0 +1,180 @@
+-- A session over the store of one engine is explained by its history, and the closed disk has it.
+use Rattle.std.proofs.Common.{◌≡◌, ℕ, ◌+◌, ◌≤◌, min, Bool, true, List, [], ◌∷◌, ◌++◌, length, refl, sym, ap, ◌∙◌, subst, Option, Some, None, IsPermutation}
+use Rattle.std.specs.Prelude.{IsTrue, OnErr, OnOk, Result}
+use Rattle.std.specs.declared.result.Result.TheVariants.{Ok, Err}
+use Rattle.std.specs.Option.{option_to_list}
+use Rattle.std.proofs.lemmas.List.{append-nil}
+use Rattle.std.proofs.lemmas.List.Sorted.{IsPermutation-refl}
+use Rattle.shard_disk.specs.Directory.{Directory}
+use Rattle.shard_disk.specs.Health.{HasCause as FaultHasCause, Health, last_count}
+use Rattle.shard_disk.specs.declared.disk.Disk.{Ghosts}
+use Rattle.shard_disk.specs.declared.trouble.Trouble.{Trouble}
+use Rattle.point_model.specs.Histories.{State, state_after}
+use Rattle.point_model.specs.declared.entry.Entry.{Entry}
+use Rattle.store_trait.specs.Told.{IsAlike, Keeps, Limits, OwnsAll, Told, numbers_from as store_numbers, state_now}
+use Rattle.engine_session.proofs.LookLemmas.{look_makes_none}
+use Rattle.session_io.specs.declared.report.Report.{Report}
+use Rattle.session_model.specs.Machine.{Answer}
+use Rattle.session_model.specs.Explained.{Dialogue, ExplainedBut, IsTold, Transcript, all_answers, own_numbers, numbers_from}
+use Rattle.session_loop.specs.Sessions.{IsDialogue, IsSession, Told as Client, faults_in}
+use Rattle.session_loop.specs.Steps.{HasCause, Stored}
+use Rattle.session_loop.proofs.MemoryLemmas.{same_numbers}
+use Rattle.shard_state.specs.Books.{state_in}
+use Rattle.shard_state.specs.Calls.{Closes}
+use Rattle.shard_state.specs.History.{StandsForPrefix}
+use Rattle.shard_state.specs.Meaning.{Stands, StandsWithAtMost}
+use Rattle.shard_state.specs.Opening.{IsSoundThroughout}
+use Rattle.gate_log.proofs.Results.{on_ok_then}
+use Rattle.shard_state.proofs.Entering.{on_err_then}
+use Rattle.shard_calls.specs.Holds.{HasRun}
+use Rattle.shard_calls.specs.Told.{limits_of, told_of}
+use Rattle.shard_steps.specs.Shards.{state_of}
+use Rattle.shard_steps.specs.declared.shard.Shard.{Shard}
+use Rattle.engine_session.specs.Durable.{Lasts}
+use Rattle.engine_session.specs.Serving.{IsServedFrom, Serves}
+use Rattle.engine_session.specs.declared.serving.Ended.{Ended}
+
+-- ---- what the client was told
+
+-- a store that began so: for the first client, alone, with limits, telling its points
+pub record BeginsWith (start : State) (limits : Limits) (old : Told) : Type 0 where
+  pub begins : old.start ≡ start
+  pub client : old.client ≡ 0
+  pub tells : old.tells ≡ true
+  pub alone : IsTrue old.is_alone
+  pub limited : old.limits ≡ Some limits
+  pub history : old.history ≡ []
+  pub own : old.own ≡ []
+
+module _ (start : State) (limits : Limits) (old new : Stored) (transcript : Transcript) (dialogue : Dialogue) (begins : BeginsWith start limits old.told) (is : IsDialogue old new transcript dialogue) where
+  pub told : IsTold true (HasCause true (Some limits) new.told.series) start new.told.history 0 transcript dialogue is.opening
+  told =
+      subst (λ (n : ℕ). IsTold true (HasCause true (Some limits) new.told.series) start new.told.history n transcript dialogue is.opening) (is.kept.client ∙ begins.client)
+      (subst (λ (s : State). IsTold true (HasCause true (Some limits) new.told.series) s new.told.history new.told.client transcript dialogue is.opening) (is.kept.start ∙ begins.begins)
+      (subst (λ (o : Option Limits). IsTold true (HasCause true o new.told.series) new.told.start new.told.history new.told.client transcript dialogue is.opening) (is.kept.limits ∙ begins.limited)
+      (subst (λ (b : Bool). IsTold b (HasCause b new.told.limits new.told.series) new.told.start new.told.history new.told.client transcript dialogue is.opening) (is.kept.tells ∙ begins.tells) is.told)))
+
+  pub numbers : own_numbers dialogue ≡ numbers_from (start.number + 1) new.told.history
+  numbers =
+      let owned : OwnsAll old.told = begins.own ∙ sym (ap (λ (h : List Entry). store_numbers (old.told.start.number + 1) h) begins.history) in
+      let owns : OwnsAll new.told = is.kept.alone (subst (λ (b : Bool). IsTrue b) (sym is.kept.is_alone) begins.alone) owned in
+      sym (is.own ∙ ap (λ (l : List ℕ). l ++ own_numbers dialogue) begins.own) ∙ owns
+      ∙ ap (λ (s : State). store_numbers (s.number + 1) new.told.history) (is.kept.start ∙ begins.begins) ∙ same_numbers (start.number + 1) new.told.history
+
+  abbrev explained : ExplainedBut true (HasCause true (Some limits) new.told.series) start new.told.history (transcript ∷ [])
+  explained = record {
+    dialogues = dialogue ∷ [];
+    told = (is.opening, told, tt);
+    each_once = subst (λ (l : List ℕ). IsPermutation l (numbers_from (start.number + 1) new.told.history)) (sym (append-nil (own_numbers dialogue) ∙ numbers)) (IsPermutation-refl (numbers_from (start.number + 1) new.told.history));
+  }
+
+pub served_from : (start : State) (limits : Limits) (before now : Client) (old new : Stored) (report : Report) → BeginsWith start limits old.told → IsSession before now old new report
+    → IsServedFrom before now start limits new.told.series new.told.history old.health new.health report
+served_from start limits before now old new report begins session =
+    let same = append-nil (all_answers session.dialogue) in
+    record {
+      transcript = session.transcript;
+      read = session.read;
+      left = session.left;
+      ended = session.ended;
+      all_read = session.all_read;
+      moments = session.moments;
+      written = session.written;
+      reported = session.reported;
+      explained = explained start limits old new session.transcript session.dialogue begins session.is;
+      ages = session.is.ages;
+      faults = subst (λ (l : List Answer). min (old.health.faults + faults_in l) last_count ≤ new.health.faults) (sym same) session.is.faults;
+      quiet = λ none. session.is.quiet (ap (λ (l : List Answer). faults_in l) (sym same) ∙ none);
+    }
+
+-- what a store over an engine tells at its start
+pub begins_with : {D : Type 0} (start : State) (first : List (List ℕ)) (shard : Shard D) (old : Told) → old ≡ told_of 0 start first [] shard → BeginsWith start (limits_of start first shard) old
+begins_with start first shard old is = subst (λ (t : Told). BeginsWith start (limits_of start first shard) t) (sym is) (record { begins = refl; client = refl; tells = refl; alone = refl; limited = refl; history = refl; own = refl })
+
+-- the store's entries are all its own, so its number counts them, and a look at it makes none
+module _ (start : State) (limits : Limits) (before now : Client) (old new : Stored) (report : Report) (begins : BeginsWith start limits old.told) (session : IsSession before now old new report) (last : Told) (kept : Keeps new.told last)
+    (alike : IsAlike new.told last) where
+  still_alone : IsTrue new.told.is_alone
+  still_alone = subst (λ (b : Bool). IsTrue b) (sym session.is.kept.is_alone) begins.alone
+
+  pub same_history : last.history ≡ new.told.history
+  same_history = look_makes_none new.told last kept alike (subst (λ (b : Bool). IsTrue b) (sym kept.is_alone) still_alone)
+      (session.is.kept.alone still_alone (begins.own ∙ sym (ap (λ (h : List Entry). store_numbers (old.told.start.number + 1) h) begins.history)))
+
+  pub counts : (number : ℕ) → number ≡ (state_now last).number → number ≡ start.number + length new.told.history
+  counts number is = is ∙ ap (λ (s : State). s.number + length last.history) (kept.start ∙ session.is.kept.start ∙ begins.begins) ∙ ap (λ (h : List Entry). start.number + length h) same_history
+
+-- ---- what the disk was left with
+
+module _ {D R W : Type 0} (g : Ghosts D R W) (start : State) (since : ℕ) (history : List Entry) (shard : Shard D) (disk : D) (closed : Result (Unit {0}) Trouble) (closes : Closes g shard.logs disk closed) (told : IsTrue g.tells)
+    (ran : HasRun g start since history shard) where
+  state_is : state_in ran.runs.logs.books ≡ state_after start history
+  state_is = ran.runs.logs.is ∙ ap (λ (l : List Entry). state_after start l) ran.are
+
+  each : (c : Directory) → (g.crashes disk).since since c → StandsForPrefix start history ran.refused 0 c
+  each c left = subst (λ (l : List Entry). StandsForPrefix start l ran.refused 0 c) ran.are ((closes.ran told start since ran.made ran.refused ran.doubt ran.runs.logs).each c left)
+
+  lasts_ok : IsSoundThroughout g disk (state_in ran.runs.logs.books) → OnOk closed (IsSoundThroughout g disk (state_after start history)) → Lasts g disk since start history closed
+  lasts_ok sound exactly = record {
+    refused = ran.refused;
+    doubt = None;
+    asked = tt;
+    each = each;
+    now = λ c now. subst (λ (s : State). Stands c s) state_is (sound.images c now);
+    exactly = exactly;
+  }
+
+  lasts_err : ((c : Directory) → (g.crashes disk).now c → StandsWithAtMost (state_in ran.runs.logs.books) (option_to_list ran.doubt) c) → OnOk closed (IsSoundThroughout g disk (state_after start history)) → Lasts g disk since start history closed
+  lasts_err left exactly = record {
+    refused = ran.refused;
+    doubt = ran.doubt;
+    asked = ran.runs.logs.asked;
+    each = each;
+    now = λ c now. subst (λ (s : State). StandsWithAtMost s (option_to_list ran.doubt) c) state_is (left c now);
+    exactly = exactly;
+  }
+
+  abbrev Sound : Type 0
+  Sound = IsSoundThroughout g disk (state_in ran.runs.logs.books)
+
+  abbrev Left : Type 0
+  Left = (c : Directory) → (g.crashes disk).now c → StandsWithAtMost (state_in ran.runs.logs.books) (option_to_list ran.doubt) c
+
+  lasts_either : (r : Result (Unit {0}) Trouble) → closed ≡ r → OnOk r Sound → OnErr r Left → Lasts g disk since start history closed
+  lasts_either (Ok x) is ok err =
+      lasts_ok ok (subst (λ (r : Result (Unit {0}) Trouble). OnOk r (IsSoundThroughout g disk (state_after start history))) (sym is) (subst (λ (s : State). IsSoundThroughout g disk s) state_is ok))
+  lasts_either (Err e) is ok err = lasts_err err (subst (λ (r : Result (Unit {0}) Trouble). OnOk r (IsSoundThroughout g disk (state_after start history))) (sym is) (record {}))
+
+  pub lasts : Lasts g disk since start history closed
+  lasts = lasts_either closed refl (on_ok_then closed (λ ok. ok told ran.runs.logs.books ran.doubt ran.runs.logs.holds) closes.ok)
+      (on_err_then closed (λ err. let left = err told ran.runs.logs.books ran.doubt ran.runs.logs.holds in left.1) closes.refused)
+
+-- ---- both
+
+module _ {D R W : Type 0} (g : Ghosts D R W) (before now : Client) (start : State) (first : List (List ℕ)) (engine : Shard D) (is : state_of engine ≡ start) (held : engine.logs.series.keys ≡ first) (old new : Stored)
+    (told : old.told ≡ told_of 0 start first [] engine) (health : old.health ≡ g.health engine.logs.disk) (ended : Ended D) (session : IsSession before now old new ended.report) (last : Told) (kept : Keeps new.told last) (alike : IsAlike new.told last) where
+  begins : BeginsWith start (limits_of start first engine) old.told
+  begins = begins_with start first engine old.told told
+
+  served : IsServedFrom before now (state_of engine) (limits_of (state_of engine) engine.logs.series.keys engine) new.told.series new.told.history (g.health engine.logs.disk) new.health ended.report
+  served =
+      subst (λ (h : Health). IsServedFrom before now (state_of engine) (limits_of (state_of engine) engine.logs.series.keys engine) new.told.series new.told.history h new.health ended.report) health
+      (subst (λ (s : State). IsServedFrom before now s (limits_of s engine.logs.series.keys engine) new.told.series new.told.history old.health new.health ended.report) (sym is)
+      (subst (λ (l : List (List ℕ)). IsServedFrom before now start (limits_of start l engine) new.told.series new.told.history old.health new.health ended.report) (sym held)
+      (served_from start (limits_of start first engine) before now old new ended.report begins session)))
+
+  pub serves : ended.number ≡ (state_now last).number → (shard : Shard D) → (IsTrue g.tells → (since : ℕ) → HasRun g start since [] engine → HasRun g start since last.history shard)
+      → Closes g shard.logs ended.disk ended.closed → new.health ≡ g.health shard.logs.disk → Serves g before now engine ended
+  serves number shard ran closes left = record {
+    history = new.told.history;
+    held = new.told.series;
+    middle = new.health;
+    session = served;
+    number = counts start (limits_of start first engine) before now old new ended.report begins session last kept alike ended.number number ∙ ap (λ (s : State). s.number + length new.told.history) (sym is);
+    lasts = λ told since first_run.
+        subst (λ (s : State). Lasts g ended.disk since s new.told.history ended.closed) (sym is)
+        (lasts g start since new.told.history shard ended.disk ended.closed closes told
+        (subst (λ (h : List Entry). HasRun g start since h shard) (same_history start (limits_of start first engine) before now old new ended.report begins session last kept alike)
+        (ran told since (subst (λ (s : State). HasRun g s since [] engine) is first_run))));
+    closing = subst (λ (h : Health). FaultHasCause ended.closed h (g.health ended.disk)) (sym left) closes.fault;
+  }

@@ -1,0 +1,4 @@
+pub mod Durable
+pub mod Ends
+pub mod Serving
+pub mod Shells
