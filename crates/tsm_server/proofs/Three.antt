@@ -7,3 +7,10 @@ three (x ∷ []) a b c len first second third = absurd (omega arith)
 three (x ∷ y ∷ []) a b c len first second third = absurd (omega arith)
 three (x ∷ y ∷ z ∷ []) a b c len first second third = cc (first, second, third)
 three (x ∷ y ∷ z ∷ u ∷ xs) a b c len first second third = absurd (omega arith)
+
+-- a list of two
+pub two : {A : Type 0} (xs : List A) (a b : A) → length xs ≡ 2 → a ≡ get_or xs 0 a → b ≡ get_or xs 1 b → xs ≡ a ∷ b ∷ []
+two [] a b len first second = absurd (omega arith)
+two (x ∷ []) a b len first second = absurd (omega arith)
+two (x ∷ y ∷ []) a b len first second = cc (first, second)
+two (x ∷ y ∷ z ∷ xs) a b len first second = absurd (omega arith)

@@ -1,3 +1,4 @@
+pub mod Directories
 pub mod Outcomes
 pub mod Printing
 pub mod Words

@@ -11,7 +11,7 @@ use Rattle.session_io.specs.Clients.{Closed, Held, HandsOut, IsHeld, closed_clie
 use Rattle.session_io.specs.Directories.{Left, OfClient}
 use Rattle.session_model.specs.Explained.{Transcript}
 use Rattle.session_loop.specs.Sessions.{Told, IsServed, told}
-use Rattle.tsm_server.specs.Words.{AsksMem, IsCommand}
+use Rattle.tsm_server.specs.Words.{AsksMem, IsCommand, IsMem}
 use Rattle.tsm_server.specs.declared.status.Status.{Status}
 use Rattle.tsm_server.specs.declared.status.Status.TheVariants as status
 
@@ -89,12 +89,13 @@ module _ {D S K C : Type 0} (members : Devices S K C) (words : List Word) (old n
   abbrev pub EndedByMemory : Type 0
   EndedByMemory = ((now ≡ before) × (new ≡ old)) ⊎ ServedOne Memory
 
-  -- why the program ended so; words that are no command open nothing
+  -- why the program ended so where the words ask for no directory; words that are no command open nothing
   abbrev pub HasCause : Status → Type 0
   HasCause status.Served = ServedOne Read
   HasCause status.NoCommand = (¬ (IsCommand words)) × (now ≡ before)
-  HasCause status.Fault = IsCommand words × EndedByFault
-  HasCause status.NoMemory = IsCommand words × EndedByMemory
+  HasCause (status.Damaged damage) = ⊥
+  HasCause status.Fault = IsMem words × EndedByFault
+  HasCause status.NoMemory = IsMem words × EndedByMemory
 
 -- a steady desk holds the client that the words ask for
 pub record WillServe {S K C : Type 0} (words : List Word) (health : Health) (held : Option (List (Held S K C))) : Type 0 where

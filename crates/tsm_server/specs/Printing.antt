@@ -1,21 +1,30 @@
 -- Which status has the program, and what does it print?
 use Rattle.std.specs.Prelude.{◌≡◌, ◌⊎◌, ℕ, List, [], ◌∷◌, ◌++◌, codes, Option}
+use Rattle.std.specs.Fmt.{decimal}
+use Rattle.shard_disk.specs.Damage.{name_of}
+use Rattle.shard_disk.specs.declared.damage.Damage.{Damage}
 use Rattle.shard_disk.specs.Health.{Health, Failed, Rose}
 use Rattle.session_io.specs.Streams.{Grows}
 use Rattle.tsm_server.specs.declared.status.Status.{Status}
-use Rattle.tsm_server.specs.declared.status.Status.TheVariants.{Served, NoCommand, Fault, NoMemory}
+use Rattle.tsm_server.specs.declared.status.Status.TheVariants.{Served, NoCommand, Damaged, Fault, NoMemory}
 
 -- what the process ends with
 abbrev pub code_of : Status → ℕ
 code_of Served = 0
 code_of NoCommand = 1
+code_of (Damaged damage) = 2
 code_of Fault = 3
 code_of NoMemory = 4
+
+-- a damage with the number of its file, the offset in it, and the name of what is wrong there
+abbrev pub damage_text : Damage → List ℕ
+damage_text damage = codes "damaged " ++ decimal damage.file ++ codes " " ++ decimal damage.offset ++ codes " " ++ name_of damage.why ++ 10 ∷ []
 
 -- the line that is printed, with its newline; none where all went well
 abbrev pub line_of : Status → List ℕ
 line_of Served = []
-line_of NoCommand = codes "usage: tsmd mem IN OUT" ++ 10 ∷ []
+line_of NoCommand = codes "usage: tsmd mem IN OUT | shell DIR" ++ 10 ∷ []
+line_of (Damaged damage) = damage_text damage
 line_of Fault = codes "fault" ++ 10 ∷ []
 line_of NoMemory = codes "memory" ++ 10 ∷ []
 

@@ -1,5 +1,5 @@
 -- Which words are a command?
-use Rattle.std.specs.Prelude.{◌≡◌, ◌≢◌, ◌<◌, ℕ, List, [], ◌∷◌, map, length, slice_index, codes}
+use Rattle.std.specs.Prelude.{◌≡◌, ◌≢◌, ◌⊎◌, ◌<◌, ℕ, List, [], ◌∷◌, map, length, slice_index, codes}
 use Rattle.std.specs.String.{string_bytes}
 use Rattle.session_io.specs.declared.client.Word.{Word}
 
@@ -14,6 +14,17 @@ pub record AsksMem (words : List Word) (input output : List ℕ) : Type 0 where
   pub plain_input : IsPlain input
   pub plain_output : IsPlain output
 
+-- the words ask for one client over a directory, on the standard streams
+pub record AsksShell (words : List Word) (path : List ℕ) : Type 0 where
+  pub spelled : map (λ (word : Word). string_bytes word.text) words ≡ codes "shell" ∷ path ∷ []
+  pub plain : IsPlain path
+
+abbrev pub IsMem : List Word → Type 0
+IsMem words = (input : List ℕ) × (output : List ℕ) × AsksMem words input output
+
+abbrev pub IsShell : List Word → Type 0
+IsShell words = (path : List ℕ) × AsksShell words path
+
 -- the words are in the command set
 abbrev pub IsCommand : List Word → Type 0
-IsCommand words = (input : List ℕ) × (output : List ℕ) × AsksMem words input output
+IsCommand words = IsMem words ⊎ IsShell words

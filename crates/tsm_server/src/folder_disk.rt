@@ -4,8 +4,12 @@ ghost use Rattle.std.specs.FinMap as map;
 ghost use Rattle.host_disk.specs.Untold.{never, untold, untold_now, untold_since};
 
 use host_disk::{HostDisk, HostFolder, HostReader, HostWriter};
+use shard_calls::EngineDisk;
 use shard_disk::{Disk, Fault, Trouble};
+use shard_steps::Shard;
 use std::fs::File;
+use store_trait::WriteFault;
+use tsdb_types::Batch;
 
 /// The disk of a folder: `HostDisk` as a type without parameters, which a desk can name as its disk. Each call is that disk's.
 #[derive(Drop)]
@@ -95,5 +99,11 @@ impl Disk for FolderDisk {
 
     fn list(&mut self) -> Result<Vec<u32>, Trouble> {
         self.disk.list()
+    }
+}
+
+impl EngineDisk for FolderDisk {
+    fn write(shard: &mut Shard<FolderDisk>, client: u32, batch: &Batch) -> Result<u64, WriteFault> {
+        shard_steps::write(shard, client, batch)
     }
 }

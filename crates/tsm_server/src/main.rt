@@ -1,7 +1,9 @@
 //! The program: `tsmd mem IN OUT` serves the requests of the file IN over a store in memory, and writes the replies to the
-//! file OUT.
+//! file OUT; `tsmd shell DIR` serves those of the standard input over the directory DIR.
 #![tactic(auto)]
 
+mod damage_line;
+mod directory;
 mod folder_disk;
 mod gate;
 mod host_desk;

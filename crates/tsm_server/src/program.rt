@@ -1,50 +1,55 @@
 //! The top call: does what the words ask for, and says how it ended.
-ghost use Rattle.std.specs.Prelude.{◌≡◌, ◌≢◌, ◌+◌, ◌<◌, ◌≤◌, ◌↔◌, IsTrue, List, length, drop};
+ghost use Rattle.std.specs.Prelude.{◌≡◌, ◌≢◌, ◌⊎◌, ◌+◌, ◌<◌, ◌≤◌, ◌↔◌, IsTrue, List, length, drop};
 ghost use Rattle.session_io.specs.Clients.{IsFresh, IsHeld, is_steady};
 ghost use Rattle.session_io.specs.declared.client.Word.{Word};
 ghost use Rattle.session_io.specs.declared.report.End.{End};
-ghost use Rattle.session_io.specs.declared.report.End.TheVariants.{Read};
 ghost use Rattle.tsm_server.specs.Words.{IsCommand, AsksMem};
 ghost use Rattle.tsm_server.specs.Printing.{Takes, said, code_of, line_of};
-ghost use Rattle.tsm_server.specs.Outcomes.{ServedOne, ClosesOne, EndedByFault, EndedByMemory, HasCause, WillServe, devices, status_by};
+ghost use Rattle.tsm_server.specs.Outcomes.{ClosesOne, HasCause, WillServe, devices, status_by};
+ghost use Rattle.tsm_server.specs.Directories.{ShellCause, seen};
 ghost use Rattle.tsm_server.specs.declared.status.Status.{Status as Ending};
 
+use crate::damage_line::damage_line;
+use crate::directory::serve_dir;
 use crate::memory::mem;
 use crate::status::Status;
-use crate::words::mem_names;
+use crate::words::{mem_names, shell_path};
 use session_io::{Client, Desk, End, Gate, Sink, Word};
+use shard_calls::EngineDisk;
 use shard_disk::Trouble;
 use std::alloc::Global;
+use std::random::RandomSource;
 
-/// Does what the words ask for: `mem IN OUT` serves one client over a store in memory, from the input IN to the output
-/// OUT. Prints the line of the status that it answers; a refusal of `out` changes no status. `rt` and `gate` stand for
-/// the system and for places where tests may hold a session; no command needs them yet. The line is printed whole unless `out`
-/// refuses it.
-pub fn tsmd<R, K: Desk, G: Gate>(
-    _rt: &R,
+/// Does what the words ask for. `mem IN OUT` serves one client over a store in memory, from the input IN to the output OUT.
+/// `shell DIR` serves one client on the standard streams over the directory DIR, which is made where it isn't there. Prints the line
+/// of the status that it answers; a refusal of `out` changes no status. `rt` gives what clients can't know, from which hashes begin;
+/// where it gives none the program ends as for want of memory. `gate` stands for places where tests may hold a session. The line is printed
+/// whole unless `out` refuses it.
+pub fn tsmd<R: RandomSource, K: Desk, G: Gate>(
+    rt: &R,
     alloc: Global,
     words: &[Word],
     desk: &mut K,
     out: &mut K::Sink,
-    _gate: &G,
+    gate: &G,
 ) -> u8
-    ensures status { (status : Ending) × (result ≡ code_of status) × Takes (line_of status)
-        (said K.Sink.written K.Sink.health K.Sink.wants out.old) (said K.Sink.written K.Sink.health K.Sink.wants out.new) }
+where
+    K::Disk: EngineDisk,
+    // The status has its cause: what `mem` or `shell` made of the desk's clients and directory, or words that are no command.
+    ensures cause { (status : Ending) × (result ≡ code_of status) × Takes (line_of status)
+        (said K.Sink.written K.Sink.health K.Sink.wants out.old) (said K.Sink.written K.Sink.health K.Sink.wants out.new)
+        × (HasCause (devices K.Source.given K.Source.left K.Source.ended K.Source.health
+        K.Sink.written K.Sink.health K.Clock.moments) words.now (K.health desk.old) (K.health desk.new) (K.held desk.old) (K.held desk.new)
+        (K.closed desk.old) (K.closed desk.new) status
+        ⊎ ShellCause K.Disk.Disk (devices K.Source.given K.Source.left K.Source.ended K.Source.health
+        K.Sink.written K.Sink.health K.Clock.moments) words.now
+        (seen K.health K.dirs K.held K.closed desk.old) (seen K.health K.dirs K.held K.closed desk.new) status) }
     ensures no_command { (result ≡ 1) ↔ (¬ (IsCommand words.now)) }
     ensures refused { result ≡ 1 → K.closed desk.new ≡ K.closed desk.old }
-    ensures served { result ≡ 0 → ServedOne (devices K.Source.given K.Source.left K.Source.ended K.Source.health
-        K.Sink.written K.Sink.health K.Clock.moments) words.now (K.health desk.old) (K.health desk.new) (K.held desk.old) (K.held desk.new)
-        (K.closed desk.old) (K.closed desk.new) Read }
-    ensures fault { result ≡ 3 → EndedByFault (devices K.Source.given K.Source.left K.Source.ended K.Source.health
-        K.Sink.written K.Sink.health K.Clock.moments) words.now (K.health desk.old) (K.health desk.new) (K.held desk.old) (K.held desk.new)
-        (K.closed desk.old) (K.closed desk.new) }
-    ensures memory { result ≡ 4 → EndedByMemory (devices K.Source.given K.Source.left K.Source.ended K.Source.health
-        K.Sink.written K.Sink.health K.Clock.moments) words.now (K.health desk.old) (K.health desk.new) (K.held desk.old) (K.held desk.new)
-        (K.closed desk.old) (K.closed desk.new) }
     ensures steady { WillServe words.now (K.health desk.old) (K.held desk.old) → result ≢ 3 }
-    ensures kept { (K.out desk.new ≡ K.out desk.old) × (K.dirs_out desk.new ≡ K.dirs_out desk.old) × (K.dirs desk.new ≡ K.dirs desk.old) }
+    ensures kept { (K.out desk.new ≡ K.out desk.old) × (K.dirs_out desk.new ≡ K.dirs_out desk.old) }
 {
-    let status = perform(alloc, words, desk);
+    let status = perform(rt, alloc, words, desk, gate);
     end(out, status)
 }
 
@@ -53,22 +58,42 @@ pub fn end<K: Sink>(out: &mut K, status: Status) -> u8
     ensures printed { Takes (line_of status) (said K.written K.health K.wants out.old) (said K.written K.health K.wants out.new) }
     ensures code { result ≡ code_of status }
 {
-    print(out, status.line());
+    match status {
+        Status::Damaged(damage) => print(out, damage_line(&damage).as_slice()),
+        Status::Served => {}
+        Status::NoCommand => print(out, b"usage: tsmd mem IN OUT | shell DIR\n"),
+        Status::Fault => print(out, b"fault\n"),
+        Status::NoMemory => print(out, b"memory\n"),
+    }
     status.code()
 }
 
-fn perform<K: Desk>(alloc: Global, words: &[Word], desk: &mut K) -> Status
+fn perform<R: RandomSource, K: Desk, G: Gate>(
+    rt: &R,
+    alloc: Global,
+    words: &[Word],
+    desk: &mut K,
+    gate: &G,
+) -> Status
+where
+    K::Disk: EngineDisk,
     ensures cause { HasCause (devices K.Source.given K.Source.left K.Source.ended K.Source.health
         K.Sink.written K.Sink.health K.Clock.moments) words.now (K.health desk.old) (K.health desk.new) (K.held desk.old) (K.held desk.new)
-        (K.closed desk.old) (K.closed desk.new) result }
+        (K.closed desk.old) (K.closed desk.new) result
+        ⊎ ShellCause K.Disk.Disk (devices K.Source.given K.Source.left K.Source.ended K.Source.health
+        K.Sink.written K.Sink.health K.Clock.moments) words.now
+        (seen K.health K.dirs K.held K.closed desk.old) (seen K.health K.dirs K.held K.closed desk.new) result }
     ensures steady { WillServe words.now (K.health desk.old) (K.held desk.old) → result ≢ Status.Fault }
     ensures out { K.out desk.new ≡ K.out desk.old }
-    ensures dirs { (K.dirs_out desk.new ≡ K.dirs_out desk.old) × (K.dirs desk.new ≡ K.dirs desk.old) }
+    ensures dirs_out { K.dirs_out desk.new ≡ K.dirs_out desk.old }
 {
-    match mem_names(words) {
-        None => Status::NoCommand,
-        Some((input, output)) => serve_one(alloc, desk, input, output),
+    if let Some((input, output)) = mem_names(words) {
+        return serve_one(alloc, desk, input, output);
     }
+    if let Some(path) = shell_path(words) {
+        return serve_dir(rt, alloc, desk, path, gate);
+    }
+    Status::NoCommand
 }
 
 fn serve_one<K: Desk>(alloc: Global, desk: &mut K, input: &str, output: &str) -> Status

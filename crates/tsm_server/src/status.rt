@@ -1,5 +1,7 @@
 ghost use Rattle.std.specs.Prelude.{◌≡◌};
-ghost use Rattle.tsm_server.specs.Printing.{code_of, line_of};
+ghost use Rattle.tsm_server.specs.Printing.{code_of};
+
+use shard_disk::Damage;
 
 /// How a run of the program ended.
 #[derive(Clone, Copy, Debug, PartialEq, Eq)]
@@ -8,6 +10,8 @@ pub enum Status {
     Served,
     /// The words are no command. Status 1 and the usage line.
     NoCommand,
+    /// A directory is damaged. Status 2 and a line that names the file, the offset in it and why.
+    Damaged(Damage),
     /// A device failed. Status 3, line `fault`.
     Fault,
     /// There was no memory. Status 4, line `memory`.
@@ -22,20 +26,9 @@ impl Status {
         match self {
             Status::Served => 0,
             Status::NoCommand => 1,
+            Status::Damaged(_) => 2,
             Status::Fault => 3,
             Status::NoMemory => 4,
-        }
-    }
-
-    /// The line that is printed, with its newline.
-    pub fn line(self) -> &'static [u8]
-        ensures { result.now ≡ line_of self }
-    {
-        match self {
-            Status::Served => b"",
-            Status::NoCommand => b"usage: tsmd mem IN OUT\n",
-            Status::Fault => b"fault\n",
-            Status::NoMemory => b"memory\n",
         }
     }
 }

@@ -1,4 +1,5 @@
 //! Runs of the program, over desks in memory and over files of the system.
+mod directories;
 mod faults;
 mod files;
 mod rows;

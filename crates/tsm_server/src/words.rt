@@ -1,11 +1,11 @@
 ghost use Rattle.std.specs.Prelude.{MatchOption, IsTrue, ◌↔◌};
-ghost use Rattle.tsm_server.specs.Words.{AsksMem, IsCommand, IsPlain};
+ghost use Rattle.tsm_server.specs.Words.{AsksMem, AsksShell, IsMem, IsPlain, IsShell};
 
 use session_io::Word;
 
 /// The names of the input and the output where the words are `mem IN OUT`.
 pub fn mem_names(words: &[Word]) -> Option<(&str, &str)>
-    ensures { MatchOption result (¬ (IsCommand words.now)) (λ names. AsksMem words.now names.0.now names.1.now) }
+    ensures { MatchOption result (¬ (IsMem words.now)) (λ names. AsksMem words.now names.0.now names.1.now) }
 {
     match words {
         [name, input, output] if name.text.as_str() == "mem" => {
@@ -15,6 +15,19 @@ pub fn mem_names(words: &[Word]) -> Option<(&str, &str)>
             } else {
                 None
             }
+        }
+        _ => None,
+    }
+}
+
+/// The path where the words are `shell DIR`.
+pub fn shell_path(words: &[Word]) -> Option<&str>
+    ensures { MatchOption result (¬ (IsShell words.now)) (λ path. AsksShell words.now path.now) }
+{
+    match words {
+        [name, path] if name.text.as_str() == "shell" => {
+            let path = path.text.as_str();
+            if is_plain(path) { Some(path) } else { None }
         }
         _ => None,
     }

@@ -162,8 +162,11 @@ fn limits_are_exact(rt: HostRuntime) -> Result<(), Fail> {
 
 #[test]
 fn other_words_are_no_command(rt: HostRuntime) -> Result<(), Fail> {
-    let rows: [&[&str]; 6] = [
+    let rows: [&[&str]; 9] = [
         &[],
+        &["shell"],
+        &["shell", "-"],
+        &["shell", "db", "db"],
         &["mem", "in"],
         &["mem", "in", "out", "out"],
         &["mem", "-", "out"],
@@ -174,7 +177,10 @@ fn other_words_are_no_command(rt: HostRuntime) -> Result<(), Fail> {
         let desk = desk(rt.alloc(), "SELECT v FROM cpu\n", &[], &[])?;
         let outcome = run(&rt, words, desk)?;
         assert_eq!(rt; outcome.status, 1);
-        assert_eq!(rt; outcome.printed.as_str(), "usage: tsmd mem IN OUT\n");
+        assert_eq!(rt;
+            outcome.printed.as_str(),
+            "usage: tsmd mem IN OUT | shell DIR\n"
+        );
         assert_eq!(rt; outcome.replies.as_str(), "");
     }
     Ok(())
