@@ -1,5 +1,5 @@
 -- An engine whose points are those of the entries that were opened.
-use Rattle.std.proofs.Common.{◌≡◌, List, [], sym, ap, ◌∙◌, subst, None, Result, Ok, Err}
+use Rattle.std.proofs.Common.{◌≡◌, ℕ, List, [], sym, ap, ◌∙◌, subst, None, Result, Ok, Err}
 use Rattle.std.specs.Prelude.{IfOk}
 use Rattle.shard_disk.specs.Directory.{Directory}
 use Rattle.shard_disk.specs.declared.disk.Disk.{Ghosts}
@@ -10,7 +10,7 @@ use Rattle.shard_state.specs.Books.{state_in}
 use Rattle.shard_state.specs.Crashes.{LeavesOnly}
 use Rattle.shard_state.specs.History.{Ran}
 use Rattle.shard_state.specs.Layers.{overlay}
-use Rattle.shard_state.specs.Meaning.{Stands}
+use Rattle.shard_state.specs.Meaning.{AreTaken, Stands}
 use Rattle.shard_state.specs.declared.logs.Logs.{Logs}
 use Rattle.shard_state.proofs.GoingOn.{ran_begins}
 use Rattle.shard_recover.specs.Opening.{Opens}
@@ -37,6 +37,13 @@ module _ {D R W : Type 0} (g : Ghosts D R W) (state : State) (logs : Logs D) (en
             (subst (λ (s : State). Ran g logs s (g.crashes disk).moment [] [] None) (sym opens.is) (ran_begins g disk logs opens.books run opens.holds));
         points = ap (λ (s : State). s.points) state_is;
       }
+
+-- the entries of what was opened may be taken
+pub entries_taken : {D R W : Type 0} (g : Ghosts D R W) (state : State) (logs : Logs D) (entries : List Entry) → Opens g state logs entries → AreTaken logs.series.keys no_points entries
+entries_taken g state logs entries opens =
+    subst (λ (keys : List (List ℕ)). AreTaken keys no_points entries) (sym opens.holds.keeps.keys)
+    (subst (λ (l : List Entry). AreTaken opens.books.series no_points l) opens.past_floor
+    (subst (λ (l : List Points). AreTaken opens.books.series (overlay l) opens.books.entries) opens.layers opens.holds.keeps.sound.sound.taken))
 
 pub if_ok_both : {T E : Type 0} {P Q S : T → Type 0} (r : Result T E) → ((x : T) → P x → Q x → S x) → IfOk r P → IfOk r Q → IfOk r S
 if_ok_both (Ok x) leads p q = leads x p q

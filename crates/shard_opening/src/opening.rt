@@ -1,11 +1,14 @@
 // From a disk to an engine, and back.
-ghost use Rattle.std.specs.Prelude.{◌≡◌, ◌≢◌, Err, IfOk, IfErr};
-ghost use Rattle.point_model.specs.Histories.{after};
+ghost use Rattle.std.specs.Prelude.{◌≡◌, ◌≢◌, Err, IsTrue, IfOk, IfErr};
+ghost use Rattle.shard_disk.specs.declared.damage.Damage.{Damage};
+ghost use Rattle.point_model.specs.Histories.{State, after};
 ghost use Rattle.point_model.specs.Points.{no_points};
 ghost use Rattle.manifest_log.specs.Calls.{HasNoReader};
 ghost use Rattle.shard_state.specs.Calls.{Closes};
 ghost use Rattle.shard_state.specs.Engine as engine;
 ghost use Rattle.shard_recover.specs.Opening.{LeavesState};
+ghost use Rattle.shard_state.specs.Meaning.{AreTaken};
+ghost use Rattle.shard_state.specs.Opening.{IsSoundAtOpening};
 ghost use Rattle.shard_steps.specs.Shards.{IsReady};
 ghost use Rattle.shard_opening.specs.Opening.{Begins, HasCause, IsFirst, LeavesOpened, Opens};
 
@@ -38,6 +41,7 @@ pub fn open<D: Disk>(
     ensures begins { IfOk result (λ shard. Begins D.Disk disk shard) }
     // A crash at any moment of the call leaves what stands for the same, where what one before would have left does.
     ensures refused { IfErr result (λ refused. LeavesState D.Disk disk refused.0) }
+    ensures undamaged { IfErr result (λ refused. IsTrue D.tells → (state : State) → IsSoundAtOpening D.Disk disk state → (damage : Damage) → refused.1 ≡ OpenFault.Damaged damage → ⊥) }
     ensures fault { HasCause result (D.health disk) D.health }
 {
     match shard_recover::open(alloc, seed, disk) {
@@ -60,6 +64,7 @@ fn fill<D: Disk>(
     ensures points { IfOk result (λ shard. shard.live.points ≡ after no_points opened.entries.items) }
     ensures first { IfOk result (IsFirst settings) }
     ensures refused { IfErr result (λ refused. LeavesOpened D.Disk opened.logs refused.0) }
+    ensures undamaged { IfErr result (λ refused. (damage : Damage) → refused.1 ≡ OpenFault.Damaged damage → AreTaken opened.logs.series.keys no_points opened.entries.items → ⊥) }
     ensures fault { HasCause result (D.health opened.logs.disk) D.health }
 {
     let Opened { logs, entries } = opened;
@@ -87,6 +92,7 @@ fn give_up<D: Disk>(logs: Logs<D>, fault: OpenFault) -> (D, OpenFault)
     requires ready { engine.IsReady D.Disk logs }
     requires no_fault { fault ≢ OpenFault.Fault }
     ensures leaves { LeavesOpened D.Disk logs result.0 }
+    ensures damaged { (damage : Damage) → result.1 ≡ OpenFault.Damaged damage → fault ≡ OpenFault.Damaged damage }
     ensures fault { HasCause (Err result) (D.health logs.disk) D.health }
 {
     match shard_state::close(logs) {

@@ -44,6 +44,7 @@ pub fn take_in(
     entry: &Entry,
 ) -> Result<(), TakeFault>
     ensures ok { OnOk result (live.new.points ≡ after_entry live.old.points entry.now) }
+    ensures taken { OnOk result (IsTaken series.now.keys live.old.points entry.now) }
     ensures err { OnErr result (live.new.points ≡ live.old.points) }
     ensures unfit { IsErrOf result TakeFault.Unfit → IsTaken series.now.keys live.old.points entry.now → ⊥ }
 {
@@ -60,6 +61,7 @@ fn take_batch(
     batch: &Batch,
 ) -> Result<(), TakeFault>
     ensures ok { OnOk result (live.new.points ≡ with_points live.old.points batch.now) }
+    ensures taken { OnOk result (AreHeld series.now.keys batch.now × IsWritable batch.now × IsAccepted live.old.points batch.now) }
     ensures err { OnErr result (live.new.points ≡ live.old.points) }
     ensures unfit { IsErrOf result TakeFault.Unfit → AreHeld series.now.keys batch.now × IsWritable batch.now × IsAccepted live.old.points batch.now → ⊥ }
 {
@@ -151,6 +153,7 @@ pub fn take_all(
     entries: &[Entry],
 ) -> Result<(), TakeFault>
     ensures ok { OnOk result (live.new.points ≡ after live.old.points entries.now) }
+    ensures taken { OnOk result (AreTaken series.now.keys live.old.points entries.now) }
     ensures unfit { IsErrOf result TakeFault.Unfit → AreTaken series.now.keys live.old.points entries.now → ⊥ }
 {
     for entry in entries {

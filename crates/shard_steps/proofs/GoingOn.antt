@@ -1,5 +1,7 @@
 -- An engine's history goes on.
 use Rattle.std.proofs.Common.{◌≡◌, ℕ, List, [], ◌∷◌, ◌++◌, refl, sym, ap, subst, ◌∙◌, Option, None, Result, Err}
+use Rattle.std.specs.Prelude.{IfErr}
+use Rattle.std.proofs.Common.{◌⊎◌, ⊎_elim, inl, inr, Ok}
 use Rattle.std.proofs.lemmas.List.{map-append}
 use Rattle.shard_disk.specs.declared.disk.Disk.{Ghosts}
 use Rattle.point_model.specs.Histories.{State, after_entry, state_after}
@@ -12,8 +14,9 @@ use Rattle.gate_log.proofs.Results.{on_ok_then}
 use Rattle.shard_state.specs.declared.logs.Logs.{Logs}
 use Rattle.shard_state.specs.History.{Made, Ran, entries_of}
 use Rattle.shard_steps.specs.declared.shard.Shard.{Shard}
+use Rattle.shard_steps.specs.Series.{AreUnheld}
 use Rattle.shard_steps.specs.Shards.{Runs}
-use Rattle.shard_steps.specs.Calls.Write.{GoesOn}
+use Rattle.shard_steps.specs.Calls.Write.{AddsSeries, GoesOn, IsDecided, Steps}
 use Rattle.shard_steps.specs.Calls.Write.IsTried.{Untouched}
 use Rattle.shard_steps.proofs.ResultLemmas.{on_err_then}
 
@@ -71,15 +74,36 @@ module _ {D R W : Type 0} (g : Ghosts D R W) where
   module _ (client : ℕ) (points : List Point) (old mid new : Shard D)
       (lift : (start : State) (since : ℕ) (made : List Made) (refused : List Entry) (doubt : Option Entry) → Runs g old start since made refused doubt → Runs g mid start since made refused doubt) where
     -- a step behind one that leaves the history
-    pub goes_behind : (result : Result ℕ WriteFault) → GoesOn g client points mid new result → GoesOn g client points old new result
+    pub goes_behind : (result : Result ℕ WriteFault) → Steps g client points mid new result → Steps g client points old new result
     goes_behind result goes = record {
       ok = on_ok_then result (λ step. λ told start since made refused doubt runs. step told start since made refused doubt (lift start since made refused doubt runs)) goes.ok;
       stays = on_err_then result (λ step. λ told start since made refused doubt runs. step told start since made refused doubt (lift start since made refused doubt runs)) goes.stays;
     }
 
     -- a refusal that leaves the history
-    pub stays_as_it_was : (fault : WriteFault) → GoesOn g client points old mid (Err fault)
-    stays_as_it_was fault = record {
+    pub stays_as_it_was : (e : WriteFault) → Steps g client points old mid (Err e)
+    stays_as_it_was e = record {
       ok = record {};
       stays = λ told start since made refused doubt runs. (refused, doubt, Untouched refl refl, lift start since made refused doubt runs);
     }
+
+  -- a refusal before anything was done
+  pub still : (client : ℕ) (points : List Point) (shard : Shard D) (e : WriteFault) → GoesOn g client points shard shard (Err e)
+  still client points shard e = record {
+    ok = record {};
+    stays = λ told start since made refused doubt runs. (refused, doubt, Untouched refl refl, runs);
+    untouched = λ is. refl;
+    series = inl refl;
+    handed_out = refl;
+  }
+
+-- what was held of series, or what was and the new ones
+pub adds_series : (points : List Point) (old mid new prepared more : List (List ℕ)) → mid ≡ old → prepared ≡ more → AreUnheld old points more
+    → (new ≡ mid) ⊎ (new ≡ mid ++ prepared) → AddsSeries points old new
+adds_series points old mid new prepared more before are unheld = ⊎_elim
+    (λ same. inl (same ∙ before))
+    (λ added. inr (more, unheld, added ∙ ap (λ (l : List (List ℕ)). l ++ prepared) before ∙ ap (λ (l : List (List ℕ)). old ++ l) are))
+
+pub undecided_changes : (A : Type 0) (result : Result ℕ WriteFault) → IfErr result (λ e. IsDecided e → ⊥) → IfErr result (λ e. IsDecided e → A)
+undecided_changes A (Ok number) none = none
+undecided_changes A (Err e) none = λ is. absurd (none is)

@@ -7,7 +7,7 @@ ghost use Rattle.store_trait.specs.Calls.Write.{IsQuiet};
 ghost use Rattle.shard_state.specs.Engine.{IsRecordOf, MayEnter, series_in};
 ghost use Rattle.shard_state.specs.Meaning.{AreHeld};
 ghost use Rattle.wal_store.specs.Segments.{last_number};
-ghost use Rattle.shard_steps.specs.Calls.Write.{Adds, Allows, Commits, GoesOn, HasCause, IsOpen, Keeps, Readies};
+ghost use Rattle.shard_steps.specs.Calls.Write.{Adds, Allows, Commits, GoesOn, HasCause, IsOpen, Keeps, Readies, Steps};
 ghost use Rattle.shard_steps.specs.Series.{AreUnheld};
 ghost use Rattle.shard_steps.specs.Shards.{IsReady, state_of};
 
@@ -120,7 +120,7 @@ impl<D: Disk> Shard<D> {
         requires accepted { IsAccepted self.old.live.points batch.now }
         requires held { AreHeld (self.old.logs.series.keys ++ series_in prepared.series) batch.now }
         ensures commits { Commits D.Disk client batch.now prepared self.old self.new result }
-        ensures goes_on { GoesOn D.Disk client batch.now self.old self.new result }
+        ensures goes_on { Steps D.Disk client batch.now self.old self.new result }
         ensures ready { IsReady D.Disk self.new }
         ensures ages { Ages (D.health self.old.logs.disk) (D.health self.new.logs.disk) }
         ensures quiet { IsQuiet result (D.health self.old.logs.disk) (D.health self.new.logs.disk) }

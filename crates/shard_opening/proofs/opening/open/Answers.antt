@@ -7,7 +7,7 @@ use Rattle.point_model.specs.Histories.{State}
 use Rattle.shard_state.specs.Crashes.{LeavesOnly}
 use Rattle.shard_state.specs.Meaning.{Stands}
 use Rattle.shard_state.proofs.Leaving.{leaves_then}
-use Rattle.shard_opening.proofs.OpenedLemmas.{begins, if_ok_both, state_is}
+use Rattle.shard_opening.proofs.OpenedLemmas.{begins, entries_taken, if_ok_both, state_is}
 use Rattle.shard_opening.proofs.opening.open.Goals as goal
 
 pub returns-in-Ok-clause-ok : goal.returns-in-Ok-clause-ok
@@ -37,3 +37,10 @@ returns-in-Ok-clause-refused g c =
     leaves_then (λ (d : Directory). Stands d state) _ _ _ (c.in-Ok.ensures.crash told state sound)
     (subst (λ (s : State). LeavesOnly (λ (d : Directory). Stands d s) (g.D.Disk.crashes opened.logs.disk) (g.D.Disk.crashes refused.0)) (sym opens.is) (leaves told opens.books opens.holds)))
     c.fill.ensures.refused
+
+pub returns-in-Ok-clause-undamaged : goal.returns-in-Ok-clause-undamaged
+returns-in-Ok-clause-undamaged g c =
+    let opened = c.in-Ok.opened in
+    if_err_then c.fill.result
+    (λ refused unfit told state sound damage is. unfit damage is (entries_taken g.D.Disk state opened.logs opened.entries.items (c.in-Ok.ensures.ok told state sound)))
+    c.fill.ensures.undamaged

@@ -33,6 +33,9 @@ returns-in-Ok-clause-commits g c =
       );
       err = record {};
       kept = record { settings = refl; views = refl; more = series_in c.args.prepared.series; series = counts.keys };
+      series = inr counts.keys;
+      handed_out = c.in-Ok.ensures.handed_out;
+      undecided = record {};
       cause = record {};
     }
 
@@ -50,6 +53,9 @@ returns-in-Err-Memory-clause-commits g c =
       ok = record {};
       err = ap (λ (n : ℕ). record { points = c.args.self.now.live.points; number = n }) counts.same_number;
       kept = kept c.args.self.now _ (series_in c.args.prepared.series) refl refl counts.maybe_keys;
+      series = counts.maybe_keys;
+      handed_out = c.in-Err-Memory.ensures.handed_out;
+      undecided = λ is. is;
       cause = tt;
     }
 
@@ -64,6 +70,9 @@ returns-in-Err-Fault-clause-commits g c =
       ok = record {};
       err = ap (λ (n : ℕ). record { points = c.args.self.now.live.points; number = n }) counts.same_number;
       kept = kept c.args.self.now _ (series_in c.args.prepared.series) refl refl counts.maybe_keys;
+      series = counts.maybe_keys;
+      handed_out = c.in-Err-Fault.ensures.handed_out;
+      undecided = λ is. is;
       cause = c.in-Err-Fault.ensures.fault.fault (is_fault c.in-Err-Fault.field-0 c.in-Err-Fault.field-0-is);
     }
 
