@@ -6,7 +6,7 @@ use session_io::{Client, Closed, MemClock, MemDesk, MemSink, MemSource};
 use std::alloc::{AllocError, Global};
 use std::test::Fail;
 
-/// What a run answered, printed and replied, and an image of the directory that it left.
+/// What a run answered, printed and replied, and an image of the directory that it left, where it closed one.
 #[derive(Drop)]
 struct Left {
     status: u8,
@@ -15,9 +15,10 @@ struct Left {
     image: Option<MemDisk>,
 }
 
-/// Runs `shell db` with this input, where `db` has the disk.
-fn run(rt: &HostRuntime, disk: MemDisk, input: &str) -> Result<Left, Fail> {
+/// Runs `shell db` with this input, where `db` is an image of the disk.
+fn run(rt: &HostRuntime, disk: &MemDisk, input: &str) -> Result<Left, Fail> {
     let alloc = rt.alloc();
+    let disk = disk.image(&[])?;
     let client = Client {
         source: MemSource::new(input.as_bytes().to_vec(alloc)?, Vec::new(alloc)),
         sink: MemSink::new(alloc, Vec::new(alloc)),
@@ -52,19 +53,24 @@ fn run(rt: &HostRuntime, disk: MemDisk, input: &str) -> Result<Left, Fail> {
 #[test]
 fn a_directory_is_opened_again(rt: HostRuntime) -> Result<(), Fail> {
     let disk = MemDisk::new(rt.alloc(), Vec::new(rt.alloc()));
-    let first = run(&rt, disk, "INSERT cpu v=1i 10\nSELECT v FROM cpu\n")?;
-    assert_eq!(rt; (first.status, first.printed.as_str()), (0, ""));
+    let Left {
+        status,
+        printed,
+        replies,
+        image,
+    } = run(&rt, &disk, "INSERT cpu v=1i 10\nSELECT v FROM cpu\n")?;
+    assert_eq!(rt; (status, printed.as_str()), (0, ""));
     assert_eq!(rt;
-        first.replies.as_str(),
+        replies.as_str(),
         "ok 1\nat 1\nname: cpu\ntime v\n10 1\n.\n"
     );
-    let Some(disk) = first.image else {
+    let Some(disk) = image else {
         assert!(rt; false, "the directory was closed");
         return Ok(());
     };
     let second = run(
         &rt,
-        disk,
+        &disk,
         "INSERT cpu v=true 20\nINSERT cpu v=2i 20\nSELECT v FROM cpu\n",
     )?;
     assert_eq!(rt; (second.status, second.printed.as_str()), (0, ""));
