@@ -7,7 +7,10 @@ mod FieldLemmas
 mod GatherLemmas
 mod HeldLemmas
 mod KnownLemmas
+mod LeftLemmas
 mod ListedLemmas
 mod PlaceLemmas
+mod RemovalLemmas
 mod SampleLemmas
 mod SetLemmas
+mod TakingLemmas

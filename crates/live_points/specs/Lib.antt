@@ -3,3 +3,4 @@ pub mod Known
 pub mod Learned
 pub mod Live
 pub mod Listed
+pub mod Removed

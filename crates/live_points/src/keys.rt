@@ -1,5 +1,5 @@
 // The keys that may have points, and how a composite key is written.
-ghost use Rattle.std.specs.Prelude.{◌≡◌, OnOk};
+ghost use Rattle.std.specs.Prelude.{◌≡◌, ◌≤◌, length, vec_capacity, IsOk, OnOk};
 ghost use Rattle.tsdb_types.specs.Keys.{key_of};
 ghost use Rattle.live_points.specs.Known.{IsKnown};
 ghost use Rattle.live_points.specs.Learned.{Adds, key_of_column};
@@ -13,13 +13,16 @@ const MARK: &[u8] = b"#!~#";
 // Series and fields, by the text of the series, then by field.
 pub(crate) type Keys = BTreeSet<(SeriesKey, Name)>;
 
-// Writes the composite key over what the buffer held.
+// Writes the composite key over what the buffer held. Where the buffer has the room, it takes no memory.
 pub(crate) fn write_key(
     buffer: &mut Vec<u8>,
     series: &SeriesKey,
     field: &Name,
 ) -> Result<(), AllocError>
-    ensures { OnOk result (buffer.new.items ≡ key_of series.now field.now) }
+    ensures ok { OnOk result (buffer.new.items ≡ key_of series.now field.now) }
+    ensures capacity { vec_capacity buffer.old ≤ vec_capacity buffer.new }
+    ensures room { OnOk result (length (key_of series.now field.now) ≤ vec_capacity buffer.new) }
+    ensures succeeds { length (key_of series.now field.now) ≤ vec_capacity buffer.old → IsOk result }
 {
     buffer.clear();
     buffer.extend_from_slice(series.text().as_bytes())?;

@@ -6,9 +6,10 @@ ghost use Rattle.point_model.specs.Acceptance.{IsCell};
 use crate::conflicts::find_conflict;
 use crate::gather::view_of;
 use crate::keys::Keys;
+use crate::removal::{Removal, removal_of, take_away};
 use crate::samples::{Samples, learn_columns};
 use point_cache::PointCache;
-use point_model::Need;
+use point_model::{Deletion, Need};
 use std::alloc::{AllocError, Global};
 use std::collections::{BTreeMap, BTreeSet};
 use std::hash::RandomState;
@@ -45,9 +46,11 @@ impl LivePoints {
     ghost use Rattle.std.specs.Option.{option_map};
     ghost use Rattle.point_model.specs.Acceptance.{conflict, IsAccepted, IsSound, IsWritable};
     ghost use Rattle.point_model.specs.Cursors.{Gives};
+    ghost use Rattle.point_model.specs.Deletions.{without};
     ghost use Rattle.point_model.specs.Histories.{with_points};
     ghost use Rattle.point_model.specs.Points.{no_points};
     ghost use Rattle.store_trait.specs.Plain.{conflict_of};
+    ghost use Rattle.live_points.specs.Removed.{IsRemovalOf};
 
     /// No points. Their keys are hashed by a seed of their own, so that no client can choose keys of one hash.
     pub fn new(alloc: Global, hashing: RandomState) -> LivePoints
@@ -107,6 +110,31 @@ impl LivePoints {
     {
         self.is_ready = false;
         self.cache.insert(batch);
+        let _ = self.cache.len();
+    }
+
+    /// Makes the removal of a deletion: all memory that taking its points away needs. The points stay as they are.
+    pub fn prepare_removal(&self, deletion: &Deletion) -> Result<Removal, AllocError>
+        ensures { IfOk result (IsRemovalOf deletion.now self.now.points) }
+    {
+        removal_of(self.alloc, &self.cache, &self.keys, deletion)
+    }
+
+    /// Takes away what the deletion takes away of the points that its removal was made for. Room that was made for a batch is gone. It
+    /// takes no memory.
+    pub fn remove(&mut self, deletion: &Deletion, removal: Removal)
+        requires { IsRemovalOf deletion.now self.old.points removal }
+        ensures { self.new ≡ record { points = without self.old.points deletion.now; room = None } }
+    {
+        self.is_ready = false;
+        take_away(
+            &mut self.cache,
+            &mut self.keys,
+            &mut self.samples,
+            removal,
+            deletion.from,
+            deletion.to,
+        );
         let _ = self.cache.len();
     }
 
