@@ -1,4 +1,5 @@
 pub mod MemberLemmas
+mod DeletionLemmas
 mod GoingOn
 mod ResultLemmas
 mod RoomLemmas

@@ -1,2 +1,3 @@
+pub mod Delete
 pub mod View
 pub mod Write

@@ -1,13 +1,15 @@
-//! The steps of an engine over one directory: its logs and the points in memory, joined. A write enters the logs before it is
-//! set in memory, and a view shows the points in memory.
+//! The steps of an engine over one directory: its logs and the points in memory, joined. A write or a deletion enters
+//! the logs before the points in memory change, and a view shows these.
 #![tactic(auto)]
 
+mod deleting;
 mod settings;
 mod shard;
 mod unheld;
 mod view;
 mod writing;
 
+pub use deleting::{DeleteFault, delete};
 pub use settings::Settings;
 pub use shard::Shard;
 pub use view::{begin_view, end_view};

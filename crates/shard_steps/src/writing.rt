@@ -21,7 +21,7 @@ use store_trait::WriteFault;
 use tsdb_types::{Batch, Seed, SeriesKey};
 
 /// The greatest number that an entry may have.
-const LAST_NUMBER: u64 = 9_223_372_036_854_775_807;
+pub(crate) const LAST_NUMBER: u64 = 9_223_372_036_854_775_807;
 
 /// Makes one entry of a batch and gives its number. All memory is taken before a log is touched: the records, and the room for the
 /// points. Then new series are added, then the entry, and only then the points are set. After a refusal the points and the number
