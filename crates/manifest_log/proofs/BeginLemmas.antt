@@ -66,8 +66,9 @@ pub passed_over : (tells : Type 0) (files : Files) (handed : HandedOut) → (tel
 passed_over tells files handed none passed can = ⊎_elim passed (λ there. none_there files (none there.0) there.1) can
 
 pub begins_none_passed : (tells memory : Type 0) (files files' : Files) (crashes crashes' : Crashes) (handed handed' : HandedOut) → (CanBegin tells files handed → ⊥) → (tells → ChangesAt handed.next_number Anything files files')
-    → (tells → memory → ChangesAt handed.next_number (MadeOrNot Vanishes) files files') → BeginsNone tells memory files files' crashes crashes' handed handed'
-begins_none_passed tells memory files files' crashes crashes' handed handed' passed others gone = record { same = λ can. absurd (passed can); skips = λ can. absurd (passed can); never = λ can. absurd (passed can); others = others; gone = gone }
+    → (tells → memory → ChangesAt handed.next_number (MadeOrNot Vanishes) files files') → handed'.readers ≡ handed.readers → BeginsNone tells memory files files' crashes crashes' handed handed'
+begins_none_passed tells memory files files' crashes crashes' handed handed' passed others gone readers =
+    record { same = λ can. absurd (passed can); skips = λ can. absurd (passed can); never = λ can. absurd (passed can); others = others; gone = gone; readers = readers }
 
 skips_none : (old new : HandedOut) → new ≡ old → SkipsNumbers old new
 skips_none old new same = subst (SkipsNumbers old) (sym same) (record { no_lower = omega arith; readers = refl; adopted = refl })
@@ -81,6 +82,7 @@ begins_none_same tells memory files files' crashes crashes' handed handed' same 
   never = λ can had. record { crash = run; handed_out = numbers };
   others = λ told. any_kept handed.next_number files files' same;
   gone = λ told had. subst (ChangesAt handed.next_number (MadeOrNot Vanishes) files) (sym same) (record { here = inl refl; others = λ n ne. refl });
+  readers = ap (λ (h : HandedOut). h.readers) numbers;
 }
 
 -- ---- a log without a record
@@ -116,6 +118,7 @@ begins_none_then tells memory files mid files' crashes between crashes' handed l
       never = λ can had. let n = from.never can had in record { crash = same_then crashes between crashes' run n.crash; handed_out = n.handed_out };
       others = from.others;
       gone = from.gone;
+      readers = from.readers;
     }
 
 -- where no file is there, a manifest that can begin has the next number

@@ -53,13 +53,14 @@ abbrev pub Begins : Type 0 → Manifest → Files → Files → Crashes → Cras
 Begins tells begun files files' crashes crashes' handed handed' = GoesOn tells begun files files' crashes crashes' handed handed' ⊎ IsNew tells begun files files' crashes' handed handed'
 
 -- Where the manifest's number wasn't passed over the files are as they were, and after want of memory all is, so that another
--- call can go on. Else a fault may leave a file of the next number, and want of memory leaves none.
+-- call can go on. Else a fault may leave a file of the next number, and want of memory leaves none. No reader is out more than before.
 pub record BeginsNone (tells memory : Type 0) (files files' : Files) (crashes crashes' : Crashes) (handed handed' : HandedOut) : Type 0 where
   pub same : CanBegin tells files handed → files' ≡ files
   pub skips : CanBegin tells files handed → SkipsNumbers handed handed'
   pub never : CanBegin tells files handed → memory → NeverMade crashes crashes' handed handed'
   pub others : tells → ChangesAt handed.next_number Anything files files'
   pub gone : tells → memory → ChangesAt handed.next_number (MadeOrNot Vanishes) files files'
+  pub readers : handed'.readers ≡ handed.readers
 
 -- the log has some edits, as its file reads, which leave a directory that these changes may follow, and then it names a segment
 pub record CanFollow (changes : List Change) (old : Manifest) (files : Files) : Type 0 where

@@ -1,5 +1,5 @@
 -- The first files of a directory, as they are made one after another.
-use Rattle.std.proofs.Common.{◌≡◌, ◌≢◌, inl, inr, ⊎_elim, ℕ, zero, suc, ◌<◌, List, [], ◌∷◌, refl, sym, ◌∙◌, subst, arith, Bool, Option, Some, None, IsSome}
+use Rattle.std.proofs.Common.{◌≡◌, ◌≢◌, inl, inr, ⊎_elim, ℕ, zero, suc, ◌<◌, List, [], ◌∷◌, refl, sym, ap, ◌∙◌, subst, arith, Bool, Option, Some, None, IsSome}
 use Rattle.std.specs.Prelude.{IsSomeAnd, IsTrue}
 use Rattle.std.specs.FinMap.{get}
 use Rattle.shard_disk.specs.Crash.{Crashes, Leaves}
@@ -26,6 +26,10 @@ use Rattle.shard_state.specs.Opening.{IsBlankAtOpening}
 use Rattle.shard_state.proofs.Alike.{stands_alike}
 use Rattle.shard_state.proofs.Elsewhere.{file_elsewhere, stands_elsewhere}
 use Rattle.shard_state.proofs.Leaving.{leaves_of}
+
+-- a manifest was begun, and no reader is out more than before
+pub begun_readers : (tells : Type 0) (m : Manifest) (files files' : Directory) (crashes crashes' : Crashes) (handed handed' : HandedOut) → Begins tells m files files' crashes crashes' handed handed' → handed'.readers ≡ handed.readers
+begun_readers tells m files files' crashes crashes' handed handed' begins = ⊎_elim (λ as_it_is. ap (λ (h : HandedOut). h.readers) as_it_is.handed_out) (λ new. new.log.number.readers) begins
 
 some_of : {X : Type 0} (P : X → Type 0) (o : Option X) → IsSomeAnd o P → IsSome o
 some_of P None had = absurd had

@@ -68,6 +68,11 @@ Creates g disk disk' =
     IsTrue g.tells → IsBlankAtOpening (g.files disk) (g.crashes disk) (g.handed_out disk) → ((c : Directory) → (g.crashes disk).now c → StandsAs c nothing)
     → LeavesOnly (λ (c : Directory). StandsAs c nothing) (g.crashes disk) (g.crashes disk')
 
+-- the disk that making a directory gave back
+abbrev pub disk_of : {D : Type 0} → Result (Logs D) (D × LogFault) → D
+disk_of (Ok logs) = logs.disk
+disk_of (Err refused) = refused.0
+
 -- What making a directory does to the health of its disk: `Fault` is answered where the disk failed in the call, and there alone.
 abbrev pub CreateHasCause : {D : Type 0} → Result (Logs D) (D × LogFault) → Health → (D → Health) → Type 0
 CreateHasCause (Ok logs) old health = health logs.disk ≡ old

@@ -11,7 +11,7 @@ ghost use Rattle.manifest_log.specs.Reading.{IsFresh};
 ghost use Rattle.shard_state.specs.Crashes.{LeavesOnly};
 ghost use Rattle.gate_log.specs.Log.{IsEmptyLog};
 ghost use Rattle.wal_store.specs.Segments.{one_segment};
-ghost use Rattle.shard_state.specs.Creating.{AreFirst, AreNew, CreateHasCause, Creates, first_changes, first_logs};
+ghost use Rattle.shard_state.specs.Creating.{AreFirst, AreNew, CreateHasCause, Creates, disk_of, first_changes, first_logs};
 ghost use Rattle.shard_state.specs.Engine.{IsOpened, IsReady};
 ghost use Rattle.shard_state.specs.Meaning.{Stands};
 ghost use Rattle.shard_state.specs.Opening.{IsBlankAtOpening};
@@ -41,6 +41,7 @@ fn make_files<D: Disk>(alloc: Global, disk: &mut D) -> Result<Files, LogFault>
     ensures first { IfOk result (AreFirst D.Disk disk.new) }
     ensures new { IfOk result (λ files. IsTrue D.tells → IsBlankAtOpening (D.files disk.old) (D.crashes disk.old) (D.handed_out disk.old) → AreNew D.Disk disk.new files) }
     ensures crash { Creates D.Disk disk.old disk.new }
+    ensures readers { (D.handed_out disk.new).readers ≡ (D.handed_out disk.old).readers }
     ensures undamaged { (damage : Damage) → result ≡ Err (LogFault.Damaged damage) → IsTrue D.tells → ⊥ }
     ensures fault { LogHasCause result (D.health disk.old) (D.health disk.new) }
 {
@@ -73,7 +74,9 @@ fn name_files<D: Disk>(
 
     ensures ready { IfOk result (λ parts. (alloc : Global) → IsReady D.Disk (first_logs alloc disk.new parts.manifest parts.series parts.wal)) }
     ensures opened { IfOk result (λ parts. IsTrue D.tells → AreNew D.Disk disk.old files → (alloc : Global) → IsOpened D.Disk nothing (first_logs alloc disk.new parts.manifest parts.series parts.wal)) }
+    ensures series { IfOk result (λ parts. parts.series.keys ≡ []) }
     ensures crash { IsTrue D.tells → AreNew D.Disk disk.old files → LeavesOnly (λ (c : Directory). Stands c nothing) (D.crashes disk.old) (D.crashes disk.new) }
+    ensures readers { (D.handed_out disk.new).readers ≡ (D.handed_out disk.old).readers }
     ensures undamaged { (damage : Damage) → result ≡ Err (LogFault.Damaged damage) → ⊥ }
     ensures fault { LogHasCause result (D.health disk.old) (D.health disk.new) }
 {
@@ -125,11 +128,13 @@ pub fn create<D: Disk>(alloc: Global, seed: Seed, disk: D) -> Result<Logs<D>, (D
     requires unread { HasNoReader (D.handed_out disk) }
 
     ensures opened { IfOk result (λ logs. IsTrue D.tells → IsBlankAtOpening (D.files disk) (D.crashes disk) (D.handed_out disk) → IsOpened D.Disk nothing logs) }
+    ensures first { IfOk result (λ logs. (logs.series.keys ≡ []) × (logs.number ≡ 0)) }
     ensures ready { IfOk result (IsReady D.Disk) }
     // A crash at any moment of the call leaves a directory that stands for no points.
     ensures crash { IfOk result (λ logs. Creates D.Disk disk logs.disk) }
     ensures refused { IfErr result (λ refused. Creates D.Disk disk refused.0) }
     ensures undamaged { IfErr result (λ refused. (damage : Damage) → refused.1 ≡ LogFault.Damaged damage → IsTrue D.tells → ⊥) }
+    ensures readers { (D.handed_out (disk_of result)).readers ≡ (D.handed_out disk).readers }
     ensures fault { CreateHasCause result (D.health disk) D.health }
 {
     let mut disk = disk;
@@ -153,7 +158,9 @@ fn make_parts<D: Disk>(alloc: Global, seed: Seed, disk: &mut D) -> Result<Parts,
     ensures ready { IfOk result (λ parts. (alloc : Global) → IsReady D.Disk (first_logs alloc disk.new parts.manifest parts.series parts.wal)) }
     ensures opened { IfOk result (λ parts. IsTrue D.tells → IsBlankAtOpening (D.files disk.old) (D.crashes disk.old) (D.handed_out disk.old)
         → (alloc : Global) → IsOpened D.Disk nothing (first_logs alloc disk.new parts.manifest parts.series parts.wal)) }
+    ensures series { IfOk result (λ parts. parts.series.keys ≡ []) }
     ensures crash { Creates D.Disk disk.old disk.new }
+    ensures readers { (D.handed_out disk.new).readers ≡ (D.handed_out disk.old).readers }
     ensures undamaged { (damage : Damage) → result ≡ Err (LogFault.Damaged damage) → IsTrue D.tells → ⊥ }
     ensures fault { LogHasCause result (D.health disk.old) (D.health disk.new) }
 {

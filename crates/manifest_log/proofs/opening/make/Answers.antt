@@ -22,7 +22,8 @@ returns-in_err-remove-clause-refused g c =
     (begins_none_passed _ _ _ _ _ _ _ _ (passed_over _ (g.D.Disk.files c.args.disk.now) (g.D.Disk.handed_out c.args.disk.now) c.requires.none passed)
     (λ tells. subst (λ (n : ℕ). ChangesAt n Anything (g.D.Disk.files c.args.disk.now) (g.D.Disk.files c.remove.new.self)) made.number.is_next
     (subst (ChangesAt c.in_ok-log.log.file Anything (g.D.Disk.files c.args.disk.now)) (sym c.in_err-remove.ensures.refused) (any_at _ _ _ _ (made.file tells))))
-    (λ tells memory. let p = err_from_is_err_and c.from_residual-in_err-remove.result c.from_residual-in_err-remove.ensures.1 in cc (p.1, p.2, memory)))
+    (λ tells memory. let p = err_from_is_err_and c.from_residual-in_err-remove.result c.from_residual-in_err-remove.ensures.1 in cc (p.1, p.2, memory))
+    (c.remove.ensures.gone.readers ∙ made.number.readers))
 
 pub returns-in_err-remove-clause-others : goal.returns-in_err-remove-clause-others
 returns-in_err-remove-clause-others g c = λ tells.
@@ -41,7 +42,7 @@ returns-then-file-ne0-clause-refused g c =
     (subst (λ (n : ℕ). ChangesAt n (Appears (0 ∷ [])) (g.D.Disk.files c.args.disk.now) (g.D.Disk.files c.make.new.disk)) made.number.is_next (made.file tells))
     (subst (λ (n : ℕ). ChangesAt n Vanishes (g.D.Disk.files c.make.new.disk) (g.D.Disk.files c.remove.new.self)) here (c.in_ok-remove.ensures.removed tells)) in
     begins_none_passed _ _ _ _ _ _ _ _ (passed_over _ (g.D.Disk.files c.args.disk.now) (g.D.Disk.handed_out c.args.disk.now) c.requires.none passed)
-    (λ tells. any_at _ _ _ _ (gone tells)) (λ tells memory. gone tells)
+    (λ tells. any_at _ _ _ _ (gone tells)) (λ tells memory. gone tells) (c.remove.ensures.gone.readers ∙ made.number.readers)
 
 pub returns-then-file-ne0-clause-others : goal.returns-then-file-ne0-clause-others
 returns-then-file-ne0-clause-others g c = λ tells.

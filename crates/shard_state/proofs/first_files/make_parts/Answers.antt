@@ -1,3 +1,4 @@
+use Rattle.std.proofs.Common.{◌∙◌}
 use Rattle.shard_state.proofs.Creating.{Empty}
 use Rattle.shard_state.proofs.Leaving.{leaves_then}
 use Rattle.shard_state.proofs.Naming.{if_ok_then}
@@ -8,3 +9,6 @@ returns-clause-opened g c = if_ok_then c.name_files.result _ _ (λ parts opened.
 
 pub returns-clause-crash : goal.returns-clause-crash
 returns-clause-crash g c = λ told blank images. leaves_then Empty _ _ _ (c.make_files.ensures.crash told blank images) (c.name_files.ensures.crash told (c.in_ok-files.ensures.new told blank))
+
+pub returns-clause-readers : goal.returns-clause-readers
+returns-clause-readers g c = c.name_files.ensures.readers ∙ c.make_files.ensures.readers

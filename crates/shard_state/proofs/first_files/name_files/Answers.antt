@@ -1,4 +1,5 @@
 use Rattle.std.proofs.Common.{rules, ap, ◌∙◌, Ok}
+use Rattle.shard_disk.specs.HandedOut.{HandedOut}
 use Rattle.manifest_log.specs.Format.{edit_bytes}
 use Rattle.wal_store.specs.Segments.{Segments}
 use Rattle.shard_state.specs.Creating.{first_changes}
@@ -27,3 +28,9 @@ returns-clause-opened g c = λ told new alloc. opened g.D.Disk c.args.disk.now c
 
 pub returns-clause-crash : goal.returns-clause-crash
 returns-clause-crash g c = λ told new. crash_named g.D.Disk c.args.disk.now c.args.files c.requires told new c.in_ok-frame.frame (c.in_ok-frame.ensures ∙ (λ i. edit_bytes (first_changes (c.file.ensures i) (c.file-2.ensures i)))) c.edit.new.disk c.edit.new.self.log c.edit.result c.edit.ensures
+
+pub returns-in_err-edit-clause-readers : goal.returns-in_err-edit-clause-readers
+returns-in_err-edit-clause-readers g c = ap (λ (h : HandedOut). h.readers) c.edit.ensures.handed_out
+
+pub returns-clause-readers : goal.returns-clause-readers
+returns-clause-readers g c = ap (λ (h : HandedOut). h.readers) c.edit.ensures.handed_out
