@@ -1,6 +1,7 @@
 // Entries of the log are taken into the points in memory.
 ghost use Rattle.std.specs.Prelude.{◌≡◌, ◌-◌, ◌≤◌, ◌<◌, ◌^◌, min, option_copied, false, IsTrue, IsErrOf, IfOk, OnOk, OnErr};
 ghost use Rattle.point_model.specs.Acceptance.{IsAccepted, IsWritable};
+ghost use Rattle.point_model.specs.Deletions.{without};
 ghost use Rattle.point_model.specs.Histories.{after, after_entry, with_points};
 ghost use Rattle.point_model.specs.Sizes.{most_bytes, write_length};
 ghost use Rattle.shard_state.specs.Meaning.{AreHeld, AreTaken, IsTaken};
@@ -9,7 +10,7 @@ ghost use Rattle.shard_opening.specs.Columns.{IsFit, length_before};
 
 use crate::kinds::has_one_kind;
 use live_points::LivePoints;
-use point_model::Entry;
+use point_model::{Deletion, Entry};
 use series_store::Series;
 use std::alloc::{AllocError, Global};
 use tsdb_types::{Batch, Column, Point, key_fault};
@@ -35,8 +36,8 @@ impl From<AllocError> for TakeFault {
     }
 }
 
-/// Takes an entry of the log into the points in memory, where it may stand behind them: its series are held, its keys are keys, each
-/// field has one kind, and it is in conflict with no point. Deletions aren't taken yet: they are answered by want of memory.
+/// Takes an entry of the log into the points in memory, where it may stand behind them: the series of a batch are held, its keys are
+/// keys, each field has one kind, and it is in conflict with no point. A deletion may stand behind all points.
 pub fn take_in(
     alloc: Global,
     series: &Series,
@@ -49,9 +50,22 @@ pub fn take_in(
     ensures unfit { IsErrOf result TakeFault.Unfit → IsTaken series.now.keys live.old.points entry.now → ⊥ }
 {
     match entry {
-        Entry::Delete { .. } => Err(TakeFault::Memory),
+        Entry::Delete {
+            client: _,
+            deletion,
+        } => take_deletion(live, deletion),
         Entry::Write { client: _, points } => take_batch(alloc, series, live, points),
     }
+}
+
+fn take_deletion(live: &mut LivePoints, deletion: &Deletion) -> Result<(), TakeFault>
+    ensures ok { OnOk result (live.new.points ≡ without live.old.points deletion.now) }
+    ensures err { OnErr result (live.new.points ≡ live.old.points) }
+    ensures memory { IsErrOf result TakeFault.Unfit → ⊥ }
+{
+    let removal = live.prepare_removal(deletion)?;
+    live.remove(deletion, removal);
+    Ok(())
 }
 
 fn take_batch(
