@@ -1,7 +1,6 @@
 -- What does making a change do to the lists, step by step?
 use Rattle.std.specs.Prelude.{◌≡◌, ℕ, ◌+◌, ◌-◌, Bool, nat_eq, List, [], ◌∷◌, slice_get, slice_index_or, Some, set, if◌then◌else◌}
-use Rattle.index_file.specs.Contents.{has}
-use Rattle.index_lists.specs.Listing.{Listed, Listing, Puts, Takes}
+use Rattle.index_lists.specs.Listing.{Listed, Listing, Puts, Takes, is_listed}
 use Rattle.index_lists.specs.Steps.{GivesRoom, StepsAt}
 
 -- the first of the places, and those behind it
@@ -15,7 +14,7 @@ others_of (place ∷ places) = places
 
 -- whether the list at the first of the places has the id
 abbrev pub IsThere : ℕ → List ℕ → List Listed → Bool → Type 0
-IsThere id places lists there = (place : ℕ) (others : List ℕ) (listed : Listed) → places ≡ place ∷ others → slice_get lists place ≡ Some listed → there ≡ has listed.ids id
+IsThere id places lists there = (place : ℕ) (others : List ℕ) (listed : Listed) → places ≡ place ∷ others → slice_get lists place ≡ Some listed → there ≡ is_listed listed.ids id
 
 -- The id is put into the lists at these places, and counted where it wasn't in the first.
 pub record Adds (id : ℕ) (places : List ℕ) (old new : Listing) : Type 0 where

@@ -1,6 +1,6 @@
 -- What do the steps of staging and making a change do to the terms and their lists?
-use Rattle.std.specs.Prelude.{◌≡◌, ℕ, zero, suc, ◌+◌, ◌≤◌, nat_eq, List, [], ◌++◌, map, count_by, slice_get, Some, None, Contains, ◌⊎◌}
-use Rattle.indexmap.specs.Layout.{set_value_at}
+use Rattle.std.specs.Prelude.{◌≡◌, ℕ, zero, suc, ◌+◌, ◌≤◌, nat_eq, List, [], ◌++◌, map, count_by, slice_get, Some}
+use Rattle.std.specs.List.{AllByRecursion}
 use Rattle.index_lists.specs.declared.term.Term.{Term}
 use Rattle.index_lists.specs.Listing.{IsKnown, Listed}
 
@@ -13,7 +13,7 @@ pub record Grows (terms : List Term) (lists : List Listed) (terms' : List Term) 
   pub more : List Term
   pub terms_are : terms' ≡ terms ++ more
   pub lists_are : lists' ≡ lists ++ map (λ term. no_ids) more
-  pub fresh : (term : Term) → Contains more term → IsKnown terms term → ⊥
+  pub fresh : AllByRecursion (λ term. IsKnown terms term → ⊥) more
 
 -- what a list becomes by as many steps
 abbrev pub Times : (Listed → Listed → Type 0) → ℕ → Listed → Listed → Type 0

@@ -1,8 +1,8 @@
 // Ids of series in ascending order.
-ghost use Rattle.std.specs.Prelude.{◌≡◌, true, IfSome, IfNone};
+ghost use Rattle.std.specs.Prelude.{◌≡◌, true, false, IfSome, IfNone};
 ghost use Rattle.std.specs.List.Sorted.{IsStrictlySortedBy};
 ghost use Rattle.std.specs.Ordering.{nat_cmp};
-ghost use Rattle.index_file.specs.Contents.{has};
+ghost use Rattle.index_lists.specs.Listing.{is_listed};
 ghost use Rattle.index_lists.specs.Searching.{IsPlaceFor};
 
 use std::alloc::{AllocError, Global};
@@ -32,8 +32,7 @@ impl IdList {
     ghost use Rattle.std.specs.Prelude.{◌≡◌, ◌+◌, ◌-◌, ◌<◌, [], not, OnOk, OnErr};
     ghost use Rattle.std.specs.List.Sorted.{IsStrictlySortedBy};
     ghost use Rattle.std.specs.Ordering.{nat_cmp};
-    ghost use Rattle.index_file.specs.Contents.{has};
-    ghost use Rattle.index_lists.specs.Listing.{Puts, Takes};
+    ghost use Rattle.index_lists.specs.Listing.{Puts, Takes, is_listed};
 
     /// No ids, and no room.
     pub(crate) fn new(alloc: Global) -> IdList
@@ -77,7 +76,7 @@ impl IdList {
     pub(crate) fn put(&mut self, id: u32) -> bool
         requires { 0 < self.old.room }
         ensures puts { Puts id self.old self.new }
-        ensures fresh { result ≡ not (has self.old.ids id) }
+        ensures fresh { result ≡ not (is_listed self.old.ids id) }
     {
         self.room -= 1;
         match place_for(&self.ids, id) {
@@ -92,7 +91,7 @@ impl IdList {
     /// Takes an id away. Answers whether it was there.
     pub(crate) fn take(&mut self, id: u32) -> bool
         ensures takes { Takes id self.old self.new }
-        ensures was { result ≡ has self.old.ids id }
+        ensures was { result ≡ is_listed self.old.ids id }
     {
         match self.ids.binary_search(&id) {
             Ok(place) => {
@@ -108,7 +107,8 @@ impl IdList {
 fn place_for(ids: &[u32], id: u32) -> Option<usize>
     requires { IsStrictlySortedBy nat_cmp ids.now }
     ensures found { IfSome result (λ place. IsPlaceFor id place ids.now) }
-    ensures none { IfNone result (has ids.now id ≡ true) }
+    ensures lacks { IfSome result (λ _. is_listed ids.now id ≡ false) }
+    ensures none { IfNone result (is_listed ids.now id ≡ true) }
 {
     if let Some(last) = ids.last() {
         if *last < id {

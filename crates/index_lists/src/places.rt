@@ -1,8 +1,7 @@
 // Terms with their lists, in a hash table that keeps places.
 ghost use Rattle.std.specs.Prelude.{◌≡◌, ◌∷◌, ◌++◌, [], ℕ, List, not, slice_get, Some, None, IfOk, OnOk, OnErr};
 ghost use Rattle.indexmap.specs.IndexMap.{keys, values};
-ghost use Rattle.index_file.specs.Contents.{has};
-ghost use Rattle.index_lists.specs.Listing.{IsKnown, Listed, Puts, Takes};
+ghost use Rattle.index_lists.specs.Listing.{IsKnown, Listed, Puts, Takes, is_listed};
 ghost use Rattle.index_lists.specs.Ready.{StandAt};
 ghost use Rattle.index_lists.specs.Steps.{GivesRoom, Grows, HaveRoom, KeepsIds, MakesRoom, StepsAt};
 ghost use Rattle.index_lists.specs.Terms as terms;
@@ -135,7 +134,7 @@ pub(crate) fn put_at(map: &mut TermMap, place: usize, id: u32) -> bool
     requires { HaveRoom (place ∷ []) (values map.old) }
     ensures terms { keys map.new ≡ keys map.old }
     ensures puts { StepsAt (Puts id) (place ∷ []) (values map.old) (values map.new) }
-    ensures fresh { (listed : Listed) → slice_get (values map.old) place ≡ Some listed → result ≡ not (has listed.ids id) }
+    ensures fresh { (listed : Listed) → slice_get (values map.old) place ≡ Some listed → result ≡ not (is_listed listed.ids id) }
 {
     match map.get_index_mut(place) {
         Some(list) => list.put(id),
@@ -157,7 +156,7 @@ pub(crate) fn take_all(map: &mut TermMap, places: &[usize], id: u32)
 pub(crate) fn take_at(map: &mut TermMap, place: usize, id: u32) -> bool
     ensures terms { keys map.new ≡ keys map.old }
     ensures takes { StepsAt (Takes id) (place ∷ []) (values map.old) (values map.new) }
-    ensures was { (listed : Listed) → slice_get (values map.old) place ≡ Some listed → result ≡ has listed.ids id }
+    ensures was { (listed : Listed) → slice_get (values map.old) place ≡ Some listed → result ≡ is_listed listed.ids id }
 {
     match map.get_index_mut(place) {
         Some(list) => list.take(id),

@@ -1,0 +1,7 @@
+ghost use Rattle.std.specs.Prelude.{⊤};
+
+pub fn trial() -> bool
+    ensures { ⊤ }
+{
+    true
+}
