@@ -5,3 +5,5 @@ mod TermLemmas
 mod HoldLemmas
 mod CommitLemmas
 mod PlaceLemmas
+mod ReadyLemmas
+mod TellsLemmas

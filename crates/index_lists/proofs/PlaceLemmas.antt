@@ -1,5 +1,5 @@
 -- Terms that get places, and steps over places.
-use Rattle.std.proofs.Common.{◌≡◌, ℕ, zero, suc, ◌+◌, ◌<◌, ◌≤◌, Bool, true, false, nat_eq, List, [], ◌∷◌, ◌++◌, map, length, take, drop, get_or, position, cond, is_some, Some, None, slice_get, ◌⊎◌, inl, inr, refl, sym, ap, ◌∙◌, subst, ⊎_elim, arith, append_assoc, append-nil}
+use Rattle.std.proofs.Common.{◌≡◌, ℕ, zero, suc, ◌+◌, ◌<◌, ◌≤◌, Bool, true, false, nat_eq, List, [], ◌∷◌, ◌++◌, map, length, take, drop, get_or, position, cond, is_some, Result, Ok, Err, OnErr, Option, Some, None, slice_get, ◌⊎◌, inl, inr, refl, sym, ap, ◌∙◌, subst, ⊎_elim, arith, append_assoc, append-nil}
 use Rattle.std.specs.List.{AllByRecursion, IsDistinct, count_by}
 use Rattle.std.specs.Map.{keys_of, lookup, values_of}
 use Rattle.std.proofs.lemmas.Bool.{cases_Bool, false≢true}
@@ -11,6 +11,7 @@ use Rattle.index_lists.specs.Listing.{IsKnown, Listed, Puts}
 use Rattle.index_lists.specs.Ready.{StandAt}
 use Rattle.index_lists.specs.Steps.{Grows, HaveRoom, KeepsIds, MakesRoom, StepsAt, Times, no_ids}
 use Rattle.index_lists.proofs.HoldLemmas.{put_room}
+use Rattle.index_lists.proofs.PairLemmas.{nat_same}
 use Rattle.index_lists.proofs.StepLemmas.{Entry, bit, count_cons}
 
 -- ---- terms that are added
@@ -33,7 +34,7 @@ grows_none terms lists = record { more = []; terms_are = sym (append-nil terms);
 pub grows_one : (terms terms' : List Term) (lists lists' : List Listed) (term : Term) → (IsKnown terms term → ⊥) → terms' ≡ terms ++ term ∷ [] → lists' ≡ lists ++ no_ids ∷ [] → Grows terms lists terms' lists'
 grows_one terms terms' lists lists' term none a b = record { more = term ∷ []; terms_are = a; lists_are = b; fresh = (none, tt) }
 
-all_weaker : {X : Type 0} (P Q : X → Type 0) (xs : List X) → ((x : X) → P x → Q x) → AllByRecursion P xs → AllByRecursion Q xs
+pub all_weaker : {X : Type 0} (P Q : X → Type 0) (xs : List X) → ((x : X) → P x → Q x) → AllByRecursion P xs → AllByRecursion Q xs
 all_weaker P Q [] f all = tt
 all_weaker P Q (x ∷ xs) f all = (f x all.0, all_weaker P Q xs f all.1)
 
@@ -80,48 +81,49 @@ pub record TellsTerms (eq : Term → Term → Bool) : Type 0 where
   pub same : (a b : Term) → eq a b ≡ true → a ≡ b
   pub itself : (a : Term) → eq a a ≡ true
 
-module _ (eq : Term → Term → Bool) (tells : TellsTerms eq) where
-  at_place : (terms : List Term) (term : Term) (p : ℕ) (d : Term) → p < length terms → eq term (get_or terms p d) ≡ true → slice_get terms p ≡ Some term
-  at_place [] term p d less e = absurd (omega (arith, less))
-  at_place (t ∷ terms) term zero d less e = ap (λ (x : Term). Some x) (sym (tells.same term t e))
-  at_place (t ∷ terms) term (suc p) d less e = at_place terms term p d (omega (arith, less)) e
+at_place : (eq : Term → Term → Bool) → TellsTerms eq → (terms : List Term) (term : Term) (p : ℕ) (d : Term) → p < length terms → eq term (get_or terms p d) ≡ true → slice_get terms p ≡ Some term
+at_place eq tells [] term p d less e = absurd (omega (arith, less))
+at_place eq tells (t ∷ terms) term zero d less e = ap (λ (x : Term). Some x) (sym (tells.same term t e))
+at_place eq tells (t ∷ terms) term (suc p) d less e = at_place eq tells terms term p d (omega (arith, less)) e
 
-  pub found_place : (terms : List Term) (term : Term) (p : ℕ) → position (eq term) terms ≡ Some p → slice_get terms p ≡ Some term
-  found_place terms term p e = let f = position-Some (eq term) terms p term e in at_place terms term p term f.0 f.1
+pub found_place : (eq : Term → Term → Bool) (terms : List Term) (term : Term) (p : ℕ) → position (eq term) terms ≡ Some p → TellsTerms eq → slice_get terms p ≡ Some term
+found_place eq terms term p e tells = let f = position-Some (eq term) terms p term e in at_place eq tells terms term p term f.0 f.1
 
-  pub not_known : (es : List Entry) (term : Term) → is_some (lookup (eq term) es) ≡ false → IsKnown (keys_of es) term → ⊥
-  not_known es term e k = no_place es k.0 e k.1
-    where
-      no_place : (es : List Entry) (p : ℕ) → is_some (lookup (eq term) es) ≡ false → slice_get (keys_of es) p ≡ Some term → ⊥
-      no_place [] p e at = absurd cc
-      no_place (x ∷ es) zero e at =
-          let own : x.0 ≡ term = cc at in
-          let is : eq term x.0 ≡ true = ap (eq term) own ∙ tells.itself term in
-          false≢true (sym e ∙ ap (λ (b : Bool). is_some (cond b (Some x.1) (lookup (eq term) es))) is)
-      no_place (x ∷ es) (suc p) e at = by (eq term x.0) refl (λ f. no_place es p f at)
-        where
-          by : (b : Bool) → eq term x.0 ≡ b → (is_some (lookup (eq term) es) ≡ false → ⊥) → ⊥
-          by true is rest = false≢true (sym e ∙ ap (λ (b : Bool). is_some (cond b (Some x.1) (lookup (eq term) es))) is)
-          by false is rest = rest (sym (ap (λ (b : Bool). is_some (cond b (Some x.1) (lookup (eq term) es))) is) ∙ e)
+pub not_known : (eq : Term → Term → Bool) (es : List Entry) (term : Term) → is_some (lookup (eq term) es) ≡ false → TellsTerms eq → IsKnown (keys_of es) term → ⊥
+not_known eq es term e tells k = no_place es k.0 e k.1
+  where
+    yes : (x : Entry) (es : List Entry) → eq term x.0 ≡ true → is_some (cond (eq term x.0) (Some x.1) (lookup (eq term) es)) ≡ false → ⊥
+    yes x es is e = false≢true (sym e ∙ ap (λ (b : Bool). is_some (cond b (Some x.1) (lookup (eq term) es))) is)
 
-  -- no term stands at two places
-  pub apart_terms : (terms : List Term) → IsDistinct eq terms → (p q : ℕ) (term : Term) → slice_get terms p ≡ Some term → slice_get terms q ≡ Some term → p ≡ q
-  unfolding IsDistinct
-  apart_terms [] distinct p q term a b = absurd cc
-  apart_terms (t ∷ terms) distinct zero zero term a b = refl
-  apart_terms (t ∷ terms) distinct zero (suc q) term a b = absurd (other terms distinct.0 q b)
-    where
-      other : (ts : List Term) → AllByRecursion (λ x. eq t x ≡ false) ts → (q : ℕ) → slice_get ts q ≡ Some term → ⊥
-      other [] all q b = absurd cc
-      other (x ∷ ts) all zero b = let is : x ≡ term = cc b in let own : t ≡ term = cc a in false≢true (sym all.0 ∙ ap (eq t) (is ∙ sym own) ∙ tells.itself t)
-      other (x ∷ ts) all (suc q) b = other ts all.1 q b
-  apart_terms (t ∷ terms) distinct (suc p) zero term a b = absurd (other terms distinct.0 p a)
-    where
-      other : (ts : List Term) → AllByRecursion (λ x. eq t x ≡ false) ts → (q : ℕ) → slice_get ts q ≡ Some term → ⊥
-      other [] all q b' = absurd cc
-      other (x ∷ ts) all zero b' = let is : x ≡ term = cc b' in let own : t ≡ term = cc b in false≢true (sym all.0 ∙ ap (eq t) (is ∙ sym own) ∙ tells.itself t)
-      other (x ∷ ts) all (suc q) b' = other ts all.1 q b'
-  apart_terms (t ∷ terms) distinct (suc p) (suc q) term a b = ap suc (apart_terms terms distinct.1 p q term a b)
+    no : (x : Entry) (es : List Entry) → eq term x.0 ≡ false → is_some (cond (eq term x.0) (Some x.1) (lookup (eq term) es)) ≡ false → is_some (lookup (eq term) es) ≡ false
+    no x es is e = sym (ap (λ (b : Bool). is_some (cond b (Some x.1) (lookup (eq term) es))) is) ∙ e
+
+    no_place : (es : List Entry) (p : ℕ) → is_some (lookup (eq term) es) ≡ false → slice_get (keys_of es) p ≡ Some term → ⊥
+    no_place [] p e at = absurd cc
+    no_place (x ∷ es) zero e at = let own : x.0 ≡ term = cc at in yes x es (ap (eq term) own ∙ tells.itself term) e
+    no_place (x ∷ es) (suc p) e at = ⊎_elim (λ (is : eq term x.0 ≡ true). yes x es is e) (λ (is : eq term x.0 ≡ false). no_place es p (no x es is e) at) (cases_Bool (eq term x.0))
+
+not_there : (eq : Term → Term → Bool) → TellsTerms eq → (t : Term) (ts : List Term) → AllByRecursion (λ x. eq t x ≡ false) ts → (q : ℕ) (term : Term) → t ≡ term → slice_get ts q ≡ Some term → ⊥
+not_there eq tells t [] all q term own b = absurd cc
+not_there eq tells t (x ∷ ts) all zero term own b = let is : x ≡ term = cc b in false≢true (sym all.0 ∙ ap (eq t) (is ∙ sym own) ∙ tells.itself t)
+not_there eq tells t (x ∷ ts) all (suc q) term own b = not_there eq tells t ts all.1 q term own b
+
+-- no term stands at two places
+pub apart_terms : (eq : Term → Term → Bool) (terms : List Term) → IsDistinct eq terms → TellsTerms eq → (p q : ℕ) (term : Term) → slice_get terms p ≡ Some term → slice_get terms q ≡ Some term → p ≡ q
+unfolding IsDistinct
+apart_terms eq [] distinct tells p q term a b = absurd cc
+apart_terms eq (t ∷ terms) distinct tells zero zero term a b = refl
+apart_terms eq (t ∷ terms) distinct tells zero (suc q) term a b = let own : t ≡ term = cc a in absurd (not_there eq tells t terms distinct.0 q term own b)
+apart_terms eq (t ∷ terms) distinct tells (suc p) zero term a b = let own : t ≡ term = cc b in absurd (not_there eq tells t terms distinct.0 p term own a)
+apart_terms eq (t ∷ terms) distinct tells (suc p) (suc q) term a b = ap suc (apart_terms eq terms distinct.1 tells p q term a b)
+
+pub none_is : {X : Type 0} (o : Option X) → is_some o ≡ false → o ≡ None
+none_is None e = refl
+none_is (Some x) e = absurd (false≢true (sym e))
+
+pub keys_long : (es : List Entry) → length (keys_of es) ≡ length es
+keys_long [] = refl
+keys_long (e ∷ es) = ap suc (keys_long es)
 
 -- ---- room
 
@@ -157,3 +159,27 @@ room_rest id places i old new less have step = λ place listed at.
     let one = count_cons (nat_eq place) (get_or places i 0) [] in
     let r = put_room id (count_by (nat_eq place) (get_or places i 0 ∷ [])) s.0 listed s.2 in
     omega (arith, all, d, one, r)
+
+pub on_err : {T E : Type 0} {P : Type 0} (r : Result T E) → P → OnErr r P
+on_err (Ok t) p = tt
+on_err (Err e) p = p
+
+-- there is room in the list at the one place
+pub one_room : (place : ℕ) (lists : List Listed) (listed : Listed) → HaveRoom (place ∷ []) lists → slice_get lists place ≡ Some listed → 0 < listed.room
+one_room place lists listed have at =
+    let c = count_cons (nat_eq place) place [] in
+    let one : bit (nat_eq place place) ≡ 1 = ap bit (nat_same place place refl) in
+    let r = have place listed at in
+    omega (arith, c, one, r)
+
+pub one_value : {o : Option Listed} {x y : Listed} → o ≡ Some x → o ≡ Some y → x ≡ y
+one_value e f = some_is (sym e ∙ f)
+  where
+    some_is : {x y : Listed} → Some x ≡ Some y → x ≡ y
+    some_is e = cc e
+
+pub no_value : {o : Option Listed} {x : Listed} → o ≡ None → o ≡ Some x → ⊥
+no_value e f = none_some (sym e ∙ f)
+  where
+    none_some : {x : Listed} → None ≡ Some x → ⊥
+    none_some e = cc e

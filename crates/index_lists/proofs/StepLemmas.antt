@@ -106,3 +106,9 @@ module _ (Step : Listed → Listed → Type 0) where
     where
       is_one : (a b : ℕ) → nat_eq a b ≡ true → b ≡ a
       is_one a b e = grind (arith, nat_tests, e)
+
+-- what was there, written again
+pub set_back : (es : List Entry) (place : ℕ) (w : Listed) → slice_get (values_of es) place ≡ Some w → values_of (set_value_at es place w) ≡ values_of es
+set_back [] place w at = refl
+set_back (e ∷ es) zero w at = let is : e.1 ≡ w = cc at in ap (λ (l : Listed). l ∷ values_of es) (sym is)
+set_back (e ∷ es) (suc place) w at = ap (λ (ls : List Listed). e.1 ∷ ls) (set_back es place w at)

@@ -1,5 +1,5 @@
 -- What do the steps of staging and making a change do to the terms and their lists?
-use Rattle.std.specs.Prelude.{◌≡◌, ℕ, zero, suc, ◌+◌, ◌≤◌, nat_eq, List, [], ◌++◌, map, count_by, slice_get, Some}
+use Rattle.std.specs.Prelude.{◌≡◌, ℕ, zero, suc, ◌+◌, ◌≤◌, nat_eq, List, [], ◌++◌, map, count_by, slice_get, Some, ◌⊎◌}
 use Rattle.std.specs.List.{AllByRecursion}
 use Rattle.index_lists.specs.declared.term.Term.{Term}
 use Rattle.index_lists.specs.Listing.{IsKnown, Listed}
@@ -42,3 +42,9 @@ KeepsIds lists lists' =
 -- there is as much room at each place as it stands among these
 abbrev pub HaveRoom : List ℕ → List Listed → Type 0
 HaveRoom places lists = (place : ℕ) (listed : Listed) → slice_get lists place ≡ Some listed → count_by (nat_eq place) places ≤ listed.room
+
+-- the ids are those of the term's list, or there are none and the term has no place
+abbrev pub HasIds : List Term → List Listed → Term → List ℕ → Type 0
+HasIds terms lists term ids =
+    ((place : ℕ) × (listed : Listed) × (slice_get terms place ≡ Some term) × (slice_get lists place ≡ Some listed) × (ids ≡ listed.ids))
+    ⊎ ((IsKnown terms term → ⊥) × (ids ≡ []))

@@ -4,6 +4,7 @@
 
 mod change;
 mod id_list;
+#[tactic(none)]
 mod lists;
 mod places;
 mod scratch;

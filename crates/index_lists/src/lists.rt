@@ -76,16 +76,15 @@ impl Lists {
         ensures err { OnErr result ((prepared : List Prepared) → AreReady self.old prepared → AreReady self.new prepared) }
         ensures holds { (pairs : List Pair) → Holds pairs self.old → Holds pairs self.new }
     {
-        let Some(room) = self.room.checked_add(1) else {
-            return Err(AllocError);
-        };
-        if room > usize::MAX - self.pairs {
+        let _ = change.series.text();
+        let _ = self.map.len();
+        if self.room >= usize::MAX - self.pairs {
             return Err(AllocError);
         }
         count_to(&mut self.counts, change.id)?;
         let places = places_of(self.alloc, &mut self.map, &change.series, &change.field)?;
         make_rooms(&mut self.map, &places)?;
-        self.room = room;
+        self.room += 1;
         Ok(Staged { change, places })
     }
 
@@ -97,6 +96,7 @@ impl Lists {
         ensures ready { (prepared : List Prepared) → AreReady self.old (staged ∷ prepared) → AreReady self.new prepared }
         ensures holds { (pairs : List Pair) → Holds pairs self.old → Agrees pairs (pair_of staged.change) → Holds (after staged.change pairs) self.new }
     {
+        let _ = self.map.len();
         let Staged { change, places } = staged;
         self.room -= 1;
         if change.add {

@@ -1,9 +1,9 @@
 // Terms with their lists, in a hash table that keeps places.
 ghost use Rattle.std.specs.Prelude.{◌≡◌, ◌∷◌, ◌++◌, [], ℕ, List, not, slice_get, Some, None, IfOk, OnOk, OnErr};
 ghost use Rattle.indexmap.specs.IndexMap.{keys, values};
-ghost use Rattle.index_lists.specs.Listing.{IsKnown, Listed, Puts, Takes, is_listed};
+ghost use Rattle.index_lists.specs.Listing.{Listed, Puts, Takes, is_listed};
 ghost use Rattle.index_lists.specs.Ready.{StandAt};
-ghost use Rattle.index_lists.specs.Steps.{GivesRoom, Grows, HaveRoom, KeepsIds, MakesRoom, StepsAt};
+ghost use Rattle.index_lists.specs.Steps.{GivesRoom, Grows, HasIds, HaveRoom, KeepsIds, MakesRoom, StepsAt};
 ghost use Rattle.index_lists.specs.Terms as terms;
 
 use crate::Term;
@@ -166,8 +166,7 @@ pub(crate) fn take_at(map: &mut TermMap, place: usize, id: u32) -> bool
 
 /// The ids of a term, none where it has no place.
 pub(crate) fn ids_at<'a>(map: &'a TermMap, term: &Term) -> &'a [u32]
-    ensures found { (place : ℕ) (listed : Listed) → slice_get (keys map.now) place ≡ Some term.now → slice_get (values map.now) place ≡ Some listed → result.now ≡ listed.ids }
-    ensures none { (IsKnown (keys map.now) term.now → ⊥) → result.now ≡ [] }
+    ensures { HasIds (keys map.now) (values map.now) term.now result.now }
 {
     match map.get(term) {
         Some(list) => list.as_slice(),

@@ -11,6 +11,6 @@ abbrev pub invariant-loop-term : goal.invariant-loop-term
 invariant-loop-term l = record {
   grows : Grows (keys l.initial.map) (values l.initial.map) (keys l.map) (values l.map);
   stand : (before : List Term) → StandAt (keys l.initial.map) before l.initial.places.items
-      → (done : List Term) × (done ++ into_iter_items l.term-iterator ≡ l.terms.items) × StandAt (keys l.map) (before ++ done) l.places.items;
+      → (done : List Term) × (done ++ into_iter_items l.term-iterator ≡ into_iter_items l.initial.term-iterator) × StandAt (keys l.map) (before ++ done) l.places.items;
   len : into_iter_len l.term-iterator ≡ length (into_iter_items l.term-iterator);
 }
