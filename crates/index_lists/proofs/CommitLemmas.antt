@@ -6,16 +6,18 @@ use Rattle.std.specs.Ordering.{nat_cmp}
 use Rattle.std.specs.Str.{bytes_eq}
 use Rattle.std.proofs.lemmas.Bool.{cases_Bool, false≢true}
 use Rattle.std.proofs.lemmas.Bool.Decides.{nat_tests}
+use Rattle.std.proofs.lemmas.List.Sums.{count_by-le-length}
 use Rattle.tsdb_types.specs.Series.{IsSeriesText}
+use Rattle.index_lists.specs.declared.change.IndexChange.{IndexChange}
 use Rattle.index_lists.specs.declared.term.Term.{Term}
 use Rattle.index_lists.specs.declared.term.Term.TheVariants.{Field}
 use Rattle.index_lists.specs.Listing.{AreIdsOf, Holds, IsKnown, Listed, Listing, Puts, Takes, is_listed}
 use Rattle.index_lists.specs.Making.{Adds, IsThere, Removes, first_of, others_of}
-use Rattle.index_lists.specs.Pairs.{Agrees, Pair, is_in, is_same, pair_of, with_pair, without_pair}
+use Rattle.index_lists.specs.Pairs.{Agrees, Pair, after, is_in, is_same, pair_of, with_pair, without_pair}
 use Rattle.index_lists.specs.Ready.{IsReady, Prepared, StandAt}
 use Rattle.index_lists.specs.Steps.{GivesRoom, StepsAt, Times}
 use Rattle.index_lists.specs.Terms.{is_field, is_of, measurement_of, series_terms, terms_of}
-use Rattle.index_lists.proofs.PairLemmas.{In, added, all_filter, all_from, all_in, any_in, both_ways, fewer, filter_in, in_any, in_filter, nat_same, not_false, not_true, parts_same, picked, picks, removed_field, removed_last, removed_other, removed_some, same_nat, same_truth}
+use Rattle.index_lists.proofs.PairLemmas.{In, added, all_filter, all_from, all_in, any_in, both_ways, fewer, filter_in, in_any, in_filter, nat_same, not_false, not_true, parts_same, picked, picks, removed_field, removed_last, removed_other, removed_some, same_nat, same_parts, same_truth, some_counted}
 use Rattle.index_lists.proofs.StepLemmas.{bit, count_cons}
 use Rattle.index_lists.proofs.TermLemmas.{Apart, counted_at, in_of, not_counted, of_in, series_plain, wanted_at}
 use Rattle.index_lists.proofs.HoldLemmas.{FirstPlace, agree_less, agree_more, and_false, and_true, counts_less, counts_more, first_place, give_ids, length_less, once_more, one_less, put_sorted, put_times, take_sorted, take_times, there_is}
@@ -47,6 +49,17 @@ module _ (pairs : List Pair) (old new : Listing) (prepared : Prepared) (holds : 
 
   known_new : new.terms ≡ old.terms → (p : Pair) → ((term : Term) → is_of term p.series p.field ≡ true → IsKnown old.terms term) → (term : Term) → is_of term p.series p.field ≡ true → IsKnown new.terms term
   known_new same p known term of = subst (λ (ts : List Term). IsKnown ts term) (sym same) (known term of)
+
+  -- where the first list has the id, its fields and the pairs are counted
+  pub some_left : IsThere prepared.change.id prepared.places old.lists true → (0 < get_or old.counts prepared.change.id 0) × (0 < old.pairs)
+  some_left there =
+      let e = there_is pairs pair agree old prepared.places true holds long there first in
+      let o = any_in (is_same pair) pairs (sym e) in
+      let some = some_counted (λ (x : Pair). nat_eq pair.id x.id) pairs o.0 o.1 (nat_same pair.id o.0.id (same_parts pair o.0 o.2).0) in
+      let counted = holds.counted pair.id in
+      let all = holds.all in
+      let few = count_by-le-length (λ (x : Pair). nat_eq pair.id x.id) pairs in
+      (omega (arith, some, counted), omega (arith, some, few, all))
 
   -- ---- a pair more
 
@@ -320,3 +333,9 @@ module _ (pairs : List Pair) (old new : Listing) (prepared : Prepared) (holds : 
       agree = agree_less pairs pair agree holds.agree;
       texts = all_filter (λ (p : Pair). IsSeriesText p.series) (λ other. not (is_same pair other)) pairs holds.texts;
     }
+
+pub after_add : (change : IndexChange) (pairs : List Pair) → change.add ≡ true → with_pair (pair_of change) pairs ≡ after change pairs
+after_add change pairs e = sym (ap (λ (b : Bool). if b then with_pair (pair_of change) pairs else without_pair (pair_of change) pairs) e)
+
+pub after_remove : (change : IndexChange) (pairs : List Pair) → change.add ≡ false → without_pair (pair_of change) pairs ≡ after change pairs
+after_remove change pairs e = sym (ap (λ (b : Bool). if b then with_pair (pair_of change) pairs else without_pair (pair_of change) pairs) e)

@@ -7,3 +7,4 @@ mod CommitLemmas
 mod PlaceLemmas
 mod ReadyLemmas
 mod TellsLemmas
+mod MakingLemmas

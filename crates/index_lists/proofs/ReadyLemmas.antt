@@ -1,12 +1,12 @@
 -- Changes that are ready stay so, and the lists stay those of the pairs, while another is made ready.
-use Rattle.std.proofs.Common.{◌≡◌, ℕ, zero, suc, ◌+◌, ◌-◌, ◌<◌, ◌≤◌, ◌^◌, Bool, true, false, cond, nat_eq, List, [], ◌∷◌, ◌++◌, map, length, get_or, set, is_some, Option, Some, None, slice_get, ◌⊎◌, inl, inr, if◌then◌else◌, refl, sym, ap, ◌∙◌, subst, ⊎_elim, arith}
+use Rattle.std.proofs.Common.{◌≡◌, ℕ, zero, suc, ◌+◌, ◌-◌, ◌<◌, ◌≤◌, ◌^◌, Bool, true, false, cond, nat_eq, List, [], ◌∷◌, ◌++◌, map, length, get_or, set, take, replicate, is_some, Option, Some, None, slice_get, ◌⊎◌, inl, inr, if◌then◌else◌, refl, sym, ap, ◌∙◌, subst, ⊎_elim, arith}
 use Rattle.std.specs.List.{AllByRecursion, count_by, list_any}
 use Rattle.std.specs.List.Sorted.{IsStrictlySortedBy}
 use Rattle.std.specs.Map.{keys_of, lookup, values_of}
 use Rattle.std.specs.Ordering.{nat_cmp}
 use Rattle.std.proofs.lemmas.Bool.{cases_Bool, false≢true}
 use Rattle.std.proofs.lemmas.Bool.Decides.{nat_tests}
-use Rattle.std.proofs.lemmas.List.{length-set}
+use Rattle.std.proofs.lemmas.List.{length-set, take_all}
 use Rattle.std.proofs.lemmas.List.Sums.{count_by-le-length}
 use Rattle.tsdb_types.specs.Series.{IsSeriesText}
 use Rattle.index_lists.specs.declared.term.Term.{Term}
@@ -321,3 +321,17 @@ count_few pairs listing holds id =
     let b = holds.all in
     let c = count_by-le-length (λ (p : Pair). nat_eq id p.id) pairs in
     omega (arith, a, b, c)
+
+-- counts that are filled up with zeros
+pub zeros : (counts : List ℕ) (n k j : ℕ) → length counts ≤ n → get_or (take n counts ++ replicate k 0) j 0 ≡ get_or counts j 0
+zeros counts n k j long = ap (λ (l : List ℕ). get_or (l ++ replicate k 0) j 0) (take_all n counts long) ∙ behind counts j
+  where
+    none : (k j : ℕ) → get_or (replicate k 0) j 0 ≡ 0
+    none zero j = refl
+    none (suc k) zero = refl
+    none (suc k) (suc j) = none k j
+
+    behind : (xs : List ℕ) (j : ℕ) → get_or (xs ++ replicate k 0) j 0 ≡ get_or xs j 0
+    behind [] j = none k j
+    behind (x ∷ xs) zero = refl
+    behind (x ∷ xs) (suc j) = behind xs j

@@ -4,7 +4,6 @@
 
 mod change;
 mod id_list;
-#[tactic(none)]
 mod lists;
 mod places;
 mod scratch;

@@ -1,6 +1,8 @@
-ghost use Rattle.std.specs.Prelude.{◌≡◌, ◌<◌, ◌≤◌, ℕ, length, slice_index_or, OnOk};
+ghost use Rattle.std.specs.Prelude.{◌≡◌, ◌+◌, ◌-◌, ◌<◌, ◌≤◌, ◌^◌, ℕ, length, slice_index_or, set, OnOk};
 
-use crate::places::{TermMap, give_rooms, ids_at, make_rooms, places_of, put_all, put_at, take_all, take_at};
+use crate::places::{
+    TermMap, give_room, give_rooms, ids_at, make_rooms, places_of, put_all, put_at, take_all, take_at,
+};
 use crate::{IndexChange, Staged, Term};
 use indexmap::IndexMap;
 use std::alloc::{AllocError, Global};
@@ -101,9 +103,9 @@ impl Lists {
         self.room -= 1;
         if change.add {
             self.add(change.id, &places);
-        } else {
-            self.remove(change.id, &places);
+            return change;
         }
+        self.remove(change.id, &places);
         change
     }
 
@@ -124,13 +126,23 @@ impl Lists {
         requires places { HaveRoom places.now self.old.lists }
         ensures { Adds id places.now self.old self.new }
     {
-        let Some((first, others)) = places.split_first() else {
-            return;
-        };
-        let fresh = put_at(&mut self.map, *first, id);
+        match places.split_first() {
+            None => (),
+            Some((first, others)) => self.add_at(id, *first, others),
+        }
+    }
+
+    fn add_at(&mut self, id: u32, first: usize, others: &[usize])
+        requires counted { id < length self.old.counts }
+        requires few { slice_index_or self.old.counts id 0 + 1 < 2 ^ 64 }
+        requires room { self.old.pairs + 1 + self.old.room < 2 ^ 64 }
+        requires places { HaveRoom (first ∷ others.now) self.old.lists }
+        ensures { Adds id (first ∷ others.now) self.old self.new }
+    {
+        let fresh = put_at(&mut self.map, first, id);
         put_all(&mut self.map, others, id);
         if fresh {
-            self.counts[id as usize] += 1;
+            count_more(&mut self.counts, id);
             self.pairs += 1;
         }
     }
@@ -141,11 +153,20 @@ impl Lists {
         requires some { IsThere id places.now self.old.lists true → (0 < slice_index_or self.old.counts id 0) × (0 < self.old.pairs) }
         ensures { Removes id places.now self.old self.new }
     {
-        let Some((first, others)) = places.split_first() else {
-            return;
-        };
-        let was = take_at(&mut self.map, *first, id);
-        give_rooms(&mut self.map, places);
+        match places.split_first() {
+            None => (),
+            Some((first, others)) => self.remove_at(id, *first, others),
+        }
+    }
+
+    fn remove_at(&mut self, id: u32, first: usize, others: &[usize])
+        requires counted { id < length self.old.counts }
+        requires some { IsThere id (first ∷ others.now) self.old.lists true → (0 < slice_index_or self.old.counts id 0) × (0 < self.old.pairs) }
+        ensures { Removes id (first ∷ others.now) self.old self.new }
+    {
+        let was = take_at(&mut self.map, first, id);
+        give_room(&mut self.map, first);
+        give_rooms(&mut self.map, others);
         if was {
             self.forget(id, others);
         }
@@ -157,13 +178,36 @@ impl Lists {
         requires some { (0 < slice_index_or self.old.counts id 0) × (0 < self.old.pairs) }
         ensures { Forgets id places.now self.old self.new }
     {
-        let place = id as usize;
-        self.counts[place] -= 1;
+        let left = count_less(&mut self.counts, id);
         self.pairs -= 1;
-        if self.counts[place] == 0 {
+        if left == 0 {
             take_all(&mut self.map, places, id);
         }
     }
+}
+
+// Counts one field more of a series.
+fn count_more(counts: &mut Vec<usize>, id: u32)
+    requires counted { id < length counts.old.items }
+    requires few { slice_index_or counts.old.items id 0 + 1 < 2 ^ 64 }
+    ensures { counts.new.items ≡ set counts.old.items id (slice_index_or counts.old.items id 0 + 1) }
+{
+    let place = id as usize;
+    let count = counts[place];
+    counts[place] = count + 1;
+}
+
+// Counts one field less of a series, and tells how many are left.
+fn count_less(counts: &mut Vec<usize>, id: u32) -> usize
+    requires counted { id < length counts.old.items }
+    requires some { 0 < slice_index_or counts.old.items id 0 }
+    ensures counts { counts.new.items ≡ set counts.old.items id (slice_index_or counts.old.items id 0 - 1) }
+    ensures left { result + 1 ≡ slice_index_or counts.old.items id 0 }
+{
+    let place = id as usize;
+    let left = counts[place] - 1;
+    counts[place] = left;
+    left
 }
 
 // Makes the counts reach as far as an id.

@@ -108,7 +108,8 @@ pub(crate) fn give_rooms(map: &mut TermMap, places: &[usize])
     }
 }
 
-fn give_room(map: &mut TermMap, place: usize)
+/// Gives the room for one id at a place back.
+pub(crate) fn give_room(map: &mut TermMap, place: usize)
     ensures terms { keys map.new ≡ keys map.old }
     ensures gives { StepsAt GivesRoom (place ∷ []) (values map.old) (values map.new) }
 {
