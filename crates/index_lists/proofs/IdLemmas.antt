@@ -165,8 +165,7 @@ there_at (x ∷ ids) id (suc place) within is = ap (λ (b : Bool). nat_eq id x |
 -- what a binary search tells of ascending ids
 pub not_found : (ids : List ℕ) (id place : ℕ) → IsStrictlySortedBy nat_cmp ids → IsBinarySearchResult (λ y. nat_cmp y id) ids (Err place) → (is_listed ids id ≡ false) × IsPlaceFor id place ids
 not_found ids id place sorted result =
-    let found = searched ids id (Err place) result (λ a b le less. non_decreasing_from_sorted ids sorted a b 0 le less) in
-    (
+    let found = searched ids id (Err place) result (λ a b le less. non_decreasing_from_sorted ids sorted a b 0 le less) in (
       none_at ids id (λ k less e. by k less e (found.1 k) (found.2 k) (cases_lt k place)),
       record { within = found.0; before = found.1; behind = found.2 },
     )

@@ -8,9 +8,11 @@ use Rattle.index_lists.specs.Steps.{GivesRoom, HaveRoom, StepsAt, Times}
 use Rattle.index_lists.proofs.HoldLemmas.{put_room}
 use Rattle.index_lists.proofs.StepLemmas.{bit, count_cons, steps_none}
 
-times_add : (Step : Listed → Listed → Type 0) (m n : ℕ) (old mid new : Listed) → Times Step m old mid → Times Step n mid new → Times Step (n + m) old new
-times_add Step m zero old mid new a b = subst (λ (l : Listed). Times Step m old l) (sym b) a
-times_add Step m (suc n) old mid new a b = (b.0, times_add Step m n old mid b.0 a b.1, b.2)
+times_add : (Step : Listed → Listed → Type 0) (m n k : ℕ) (old mid new : Listed) → k ≡ n + m → Times Step m old mid → Times Step n mid new → Times Step k old new
+times_add Step m zero k old mid new e a b = let is : m ≡ k = omega (arith, e) in subst (λ (j : ℕ). Times Step j old new) is (subst (λ (l : Listed). Times Step m old l) (sym b) a)
+times_add Step m (suc n) k old mid new e a b =
+    let is : suc (n + m) ≡ k = omega (arith, e) in
+    subst (λ (j : ℕ). Times Step j old new) is (b.0, times_add Step m n (n + m) old mid b.0 refl a b.1, b.2)
 
 -- a place, and others behind it
 pub steps_cons : (Step : Listed → Listed → Type 0) (first : ℕ) (others : List ℕ) (old mid new : List Listed) → StepsAt Step (first ∷ []) old mid → StepsAt Step others mid new → StepsAt Step (first ∷ others) old new
@@ -19,8 +21,8 @@ steps_cons Step first others old mid new a b = λ place listed at.
     let m = a place n.0 n.1 in
     let one = count_cons (nat_eq place) first [] in
     let all = count_cons (nat_eq place) first others in
-    let is : count_by (nat_eq place) others + count_by (nat_eq place) (first ∷ []) ≡ count_by (nat_eq place) (first ∷ others) = omega (arith, one, all) in
-    (m.0, m.1, subst (λ (k : ℕ). Times Step k m.0 listed) is (times_add Step (count_by (nat_eq place) (first ∷ [])) (count_by (nat_eq place) others) m.0 n.0 listed m.2 n.2))
+    let is : count_by (nat_eq place) (first ∷ others) ≡ count_by (nat_eq place) others + count_by (nat_eq place) (first ∷ []) = omega (arith, one, all) in
+    (m.0, m.1, times_add Step (count_by (nat_eq place) (first ∷ [])) (count_by (nat_eq place) others) (count_by (nat_eq place) (first ∷ others)) m.0 n.0 listed is m.2 n.2)
 
 pub first_has_room : (first : ℕ) (others places : List ℕ) (lists : List Listed) → places ≡ first ∷ others → HaveRoom places lists → HaveRoom (first ∷ []) lists
 first_has_room first others places lists parts have = λ place listed at.
@@ -93,13 +95,17 @@ removes_none id places old none = record {
 
 -- whether none is left where one was taken off
 pub last_one : (P : List ℕ → Type 0) (count left : ℕ) (places : List ℕ) → left + 1 ≡ count → left ≡ 0 → P places → P (if nat_eq count 1 then places else [])
-last_one P count left places e zero p = subst P (sym (ap (λ (b : Bool). if b then places else []) one)) p
+last_one P count left places e none p = subst P (sym (ap (λ (b : Bool). if b then places else []) one)) p
   where
     one : nat_eq count 1 ≡ true
-    one = grind (arith, nat_tests, e, zero)
+    one = grind (arith, nat_tests, e, none)
 
 pub not_last : (P : List ℕ → Type 0) (count left : ℕ) (places : List ℕ) → left + 1 ≡ count → (left ≡ 0 → ⊥) → P [] → P (if nat_eq count 1 then places else [])
 not_last P count left places e some p = subst P (sym (ap (λ (b : Bool). if b then places else []) other)) p
   where
     other : nat_eq count 1 ≡ false
     other = grind (arith, nat_tests, e, some)
+
+pub no_places : (places : List ℕ) → length places ≡ 0 → places ≡ []
+no_places [] none = refl
+no_places (p ∷ places) none = absurd (omega (arith, none))

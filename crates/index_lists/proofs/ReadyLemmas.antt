@@ -173,10 +173,10 @@ pub ready_more : (mid new : Listing) (prepared : List Prepared) (one : Prepared)
     → AreReady new (prepared ++ one ∷ [])
 ready_more mid new prepared one ready is steps terms counts room = record {
   each = all_push (IsReady new) prepared one (all_weaker (IsReady mid) (IsReady new) prepared (λ p r. record {
-      terms = subst (λ (ts : List Term). StandAt ts (terms_of p.change.series p.change.field) p.places) (sym terms) r.terms;
-      text = r.text;
-      counted = let a = r.counted in let b = ap length counts in omega (arith, a, b);
-    }) ready.each) is;
+    terms = subst (λ (ts : List Term). StandAt ts (terms_of p.change.series p.change.field) p.places) (sym terms) r.terms;
+    text = r.text;
+    counted = let a = r.counted in let b = ap length counts in omega (arith, a, b);
+  }) ready.each) is;
   room = λ place listed at.
       let s = steps place listed at in
       let k = (rooms_kept (count_by (nat_eq place) one.places) s.0 listed s.2).1 in
@@ -228,10 +228,10 @@ pub record Leaves (places : List ℕ) (old new : Listing) : Type 0 where
 pub ready_behind : (old new : Listing) (staged : Prepared) (prepared : List Prepared) → Leaves staged.places old new → AreReady old (staged ∷ prepared) → AreReady new prepared
 ready_behind old new staged prepared leaves ready = record {
   each = all_weaker (IsReady old) (IsReady new) prepared (λ p r. record {
-      terms = subst (λ (ts : List Term). StandAt ts (terms_of p.change.series p.change.field) p.places) (sym leaves.terms) r.terms;
-      text = r.text;
-      counted = let a = r.counted in let b = leaves.counts in omega (arith, a, b);
-    }) ready.each.1;
+    terms = subst (λ (ts : List Term). StandAt ts (terms_of p.change.series p.change.field) p.places) (sym leaves.terms) r.terms;
+    text = r.text;
+    counted = let a = r.counted in let b = leaves.counts in omega (arith, a, b);
+  }) ready.each.1;
   room = λ place listed at. let l = leaves.lists place listed at in let was = ready.room place l.0 l.1 in let kept = l.2 in omega (arith, was, kept);
   few = let a = ready.few in let b = leaves.room in omega (arith, a, b);
 }
@@ -323,15 +323,18 @@ count_few pairs listing holds id =
     omega (arith, a, b, c)
 
 -- counts that are filled up with zeros
-pub zeros : (counts : List ℕ) (n k j : ℕ) → length counts ≤ n → get_or (take n counts ++ replicate k 0) j 0 ≡ get_or counts j 0
-zeros counts n k j long = ap (λ (l : List ℕ). get_or (l ++ replicate k 0) j 0) (take_all n counts long) ∙ behind counts j
-  where
-    none : (k j : ℕ) → get_or (replicate k 0) j 0 ≡ 0
-    none zero j = refl
-    none (suc k) zero = refl
-    none (suc k) (suc j) = none k j
+abbrev zeros_of : ℕ → List ℕ
+zeros_of k = replicate k 0
 
-    behind : (xs : List ℕ) (j : ℕ) → get_or (xs ++ replicate k 0) j 0 ≡ get_or xs j 0
-    behind [] j = none k j
-    behind (x ∷ xs) zero = refl
-    behind (x ∷ xs) (suc j) = behind xs j
+no_count : (k j : ℕ) → get_or (zeros_of k) j 0 ≡ 0
+no_count zero j = refl
+no_count (suc k) zero = refl
+no_count (suc k) (suc j) = no_count k j
+
+behind_counts : (xs : List ℕ) (k j : ℕ) → get_or (xs ++ zeros_of k) j 0 ≡ get_or xs j 0
+behind_counts [] k j = no_count k j
+behind_counts (x ∷ xs) k zero = refl
+behind_counts (x ∷ xs) k (suc j) = behind_counts xs k j
+
+pub zeros : (counts : List ℕ) (n k j : ℕ) → length counts ≤ n → get_or (take n counts ++ zeros_of k) j 0 ≡ get_or counts j 0
+zeros counts n k j long = ap (λ (l : List ℕ). get_or (l ++ zeros_of k) j 0) (take_all n counts long) ∙ behind_counts counts k j

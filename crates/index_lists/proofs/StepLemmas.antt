@@ -51,18 +51,17 @@ module _ (Step : Listed → Listed → Type 0) where
   steps_more places i old mid new within before step = λ place listed at.
       let here = step place listed at in
       let there = before place here.0 here.1 in
-      let x = get_or places i 0 in
-      (
+      let x = get_or places i 0 in (
         there.0,
         there.1,
         ⊎_elim
-        (λ (yes : nat_eq place x ≡ true).
-        times_more (count_by (nat_eq place) (take i places)) (count_by (nat_eq place) (take (i + 1) places)) there.0 here.0 listed (count_by_more_yes (nat_eq place) places i 0 within yes) there.2
-        (times_one (count_by (nat_eq place) (x ∷ [])) here.0 listed (one_yes place x yes) here.2))
-        (λ (no : nat_eq place x ≡ false).
-        let same = times_none (count_by (nat_eq place) (x ∷ [])) here.0 listed (one_no place x no) here.2 in
-        subst (λ (n : ℕ). Times Step n there.0 listed) (sym (count_by_more_no (nat_eq place) places i 0 within no)) (subst (λ (l : Listed). Times Step (count_by (nat_eq place) (take i places)) there.0 l) (sym same) there.2))
-        (cases_Bool (nat_eq place x)),
+            (λ (yes : nat_eq place x ≡ true).
+            times_more (count_by (nat_eq place) (take i places)) (count_by (nat_eq place) (take (i + 1) places)) there.0 here.0 listed (count_by_more_yes (nat_eq place) places i 0 within yes) there.2
+            (times_one (count_by (nat_eq place) (x ∷ [])) here.0 listed (one_yes place x yes) here.2))
+            (λ (no : nat_eq place x ≡ false).
+            let same = times_none (count_by (nat_eq place) (x ∷ [])) here.0 listed (one_no place x no) here.2 in
+            subst (λ (n : ℕ). Times Step n there.0 listed) (sym (count_by_more_no (nat_eq place) places i 0 within no)) (subst (λ (l : Listed). Times Step (count_by (nat_eq place) (take i places)) there.0 l) (sym same) there.2))
+            (cases_Bool (nat_eq place x)),
       )
 
   pub steps_all : (places : List ℕ) (i : ℕ) (old new : List Listed) → length places ≤ i → StepsAt Step (take i places) old new → StepsAt Step places old new

@@ -6,13 +6,11 @@ mod change;
 mod id_list;
 mod lists;
 mod places;
-mod scratch;
 mod staged;
 mod tags;
 mod term;
 
 pub use change::IndexChange;
 pub use lists::Lists;
-pub use scratch::trial;
 pub use staged::Staged;
 pub use term::Term;

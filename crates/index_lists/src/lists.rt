@@ -1,7 +1,8 @@
 ghost use Rattle.std.specs.Prelude.{◌≡◌, ◌+◌, ◌-◌, ◌<◌, ◌≤◌, ◌^◌, ℕ, length, slice_index_or, set, OnOk};
 
 use crate::places::{
-    TermMap, give_room, give_rooms, ids_at, make_rooms, places_of, put_all, put_at, take_all, take_at,
+    TermMap, give_room, give_rooms, ids_at, make_rooms, places_of, put_all, put_at, take_all,
+    take_at,
 };
 use crate::{IndexChange, Staged, Term};
 use indexmap::IndexMap;

@@ -123,12 +123,7 @@ fn spelled(alloc: Global, escaped: &[u8], ends: &[u8]) -> Result<Vec<u8>, AllocE
 }
 
 // Writes a byte, but for a backslash that one of the ends stands behind.
-fn push_named(
-    text: &mut Vec<u8>,
-    byte: u8,
-    behind: &[u8],
-    ends: &[u8],
-) -> Result<(), AllocError>
+fn push_named(text: &mut Vec<u8>, byte: u8, behind: &[u8], ends: &[u8]) -> Result<(), AllocError>
     ensures { OnOk result (text.new.items ++ unescaped (is_one_of ends.now) behind.now ≡ text.old.items ++ unescaped (is_one_of ends.now) (byte ∷ behind.now)) }
 {
     if byte == b'\\' && begins_with_end(behind, ends) {

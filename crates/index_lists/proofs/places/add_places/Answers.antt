@@ -27,13 +27,12 @@ loop-term-preserved c =
     record {
       grows = grows_then (keys c.args.map.now) (keys c.loop-term.map) (keys c.place_of.new.map) (values c.args.map.now) (values c.loop-term.map) (values c.place_of.new.map) inv.grows c.place_of.ensures.grows;
       stand = λ before at.
-          let s = inv.stand before at in
-          (
+          let s = inv.stand before at in (
             s.0 ++ c.in-Some.term ∷ [],
             append_assoc s.0 (c.in-Some.term ∷ []) left ∙ ap (λ (l : List Term). s.0 ++ l) (sym steps) ∙ s.1,
             subst (λ (ts : List Term). StandAt (keys c.place_of.new.map) ts c.push.new.self.items) (append_assoc before s.0 (c.in-Some.term ∷ []))
-            (stand_push (keys c.place_of.new.map) (before ++ s.0) c.loop-term.places.items c.push.new.self.items c.in-Some.term c.in_ok-place.place c.in_ok-push.ensures.items
-            (stand_grows (keys c.loop-term.map) (keys c.place_of.new.map) (values c.loop-term.map) (values c.place_of.new.map) (before ++ s.0) c.loop-term.places.items c.place_of.ensures.grows s.2) c.in_ok-place.ensures.place),
+                (stand_push (keys c.place_of.new.map) (before ++ s.0) c.loop-term.places.items c.push.new.self.items c.in-Some.term c.in_ok-place.place c.in_ok-push.ensures.items
+                (stand_grows (keys c.loop-term.map) (keys c.place_of.new.map) (values c.loop-term.map) (values c.place_of.new.map) (before ++ s.0) c.loop-term.places.items c.place_of.ensures.grows s.2) c.in_ok-place.ensures.place),
           );
       len = omega (arith, inv.len, ap length steps, c.in-Some.ensures.steps.1);
     }

@@ -1,5 +1,5 @@
-use Rattle.std.proofs.Common.{◌≡◌, ◌∷◌, [], true, false, not, Bool, ℕ, List, refl, sym, ap, ◌∙◌, subst, arith}
-use Rattle.indexmap.specs.IndexMap.{values}
+use Rattle.std.proofs.Common.{◌≡◌, ◌+◌, ◌∷◌, [], true, false, not, Bool, ℕ, List, refl, sym, ap, ◌∙◌, subst, arith}
+use Rattle.indexmap.specs.IndexMap.{keys, values}
 use Rattle.index_lists.specs.Listing.{Listed, Listing, Puts}
 use Rattle.index_lists.specs.Making.{Adds, IsThere}
 use Rattle.index_lists.specs.Steps.{HaveRoom}
@@ -19,8 +19,9 @@ put_all-requires c =
 
 pub returns-then-fresh : goal.returns-then-fresh
 returns-then-fresh c =
+    let new : Listing = record { terms = keys c.put_all.new.map; lists = values c.put_all.new.map; counts = c.count_more.new.counts.items; pairs = c.self.inside.pairs + 1; room = c.self.inside.room } in
     let was = there_put c.args.id c.args.first c.args.others.now (c.args.first ∷ c.args.others.now) (values c.self.inside.map) c.put_at-fresh.result refl c.put_at-fresh.ensures.fresh in
-    subst (λ (l : Listing). Adds c.args.id (c.args.first ∷ c.args.others.now) l _) c.self.view_is (record {
+    subst (λ (l : Listing). Adds c.args.id (c.args.first ∷ c.args.others.now) l new) c.self.view_is (record {
       there = false;
       was = subst (λ (b : Bool). IsThere c.args.id (c.args.first ∷ c.args.others.now) (values c.self.inside.map) (not b)) c.if-fresh.true was;
       lists = steps_cons (Puts c.args.id) c.args.first c.args.others.now (values c.self.inside.map) (values c.put_at-fresh.new.map) (values c.put_all.new.map) c.put_at-fresh.ensures.puts c.put_all.ensures.puts;
@@ -32,8 +33,9 @@ returns-then-fresh c =
 
 pub returns-else-fresh : goal.returns-else-fresh
 returns-else-fresh c =
+    let new : Listing = record { terms = keys c.put_all.new.map; lists = values c.put_all.new.map; counts = c.self.inside.counts.items; pairs = c.self.inside.pairs; room = c.self.inside.room } in
     let was = there_put c.args.id c.args.first c.args.others.now (c.args.first ∷ c.args.others.now) (values c.self.inside.map) c.put_at-fresh.result refl c.put_at-fresh.ensures.fresh in
-    subst (λ (l : Listing). Adds c.args.id (c.args.first ∷ c.args.others.now) l _) c.self.view_is (record {
+    subst (λ (l : Listing). Adds c.args.id (c.args.first ∷ c.args.others.now) l new) c.self.view_is (record {
       there = true;
       was = subst (λ (b : Bool). IsThere c.args.id (c.args.first ∷ c.args.others.now) (values c.self.inside.map) (not b)) c.if-fresh.false was;
       lists = steps_cons (Puts c.args.id) c.args.first c.args.others.now (values c.self.inside.map) (values c.put_at-fresh.new.map) (values c.put_all.new.map) c.put_at-fresh.ensures.puts c.put_all.ensures.puts;

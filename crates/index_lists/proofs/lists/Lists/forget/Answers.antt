@@ -11,7 +11,8 @@ use Rattle.index_lists.proofs.lists.Lists.forget.Goals as goal
 
 pub returns-then-left-eq0 : goal.returns-then-left-eq0
 returns-then-left-eq0 c =
-    subst (λ (l : Listing). Forgets c.args.id c.args.places.now l _) c.self.view_is (record {
+    let new : Listing = record { terms = keys c.take_all.new.map; lists = values c.take_all.new.map; counts = c.count_less-left.new.counts.items; pairs = c.self.inside.pairs - 1; room = c.self.inside.room } in
+    subst (λ (l : Listing). Forgets c.args.id c.args.places.now l new) c.self.view_is (record {
       lists = last_one (λ ps. StepsAt (Takes c.args.id) ps (values c.self.inside.map) (values c.take_all.new.map)) (get_or c.self.inside.counts.items c.args.id 0) c.count_less-left.result c.args.places.now c.count_less-left.ensures.left c.if-left-eq0.true c.take_all.ensures.takes;
       terms = c.take_all.ensures.terms;
       counts = c.count_less-left.ensures.counts;
@@ -21,7 +22,8 @@ returns-then-left-eq0 c =
 
 pub returns-else-left-eq0 : goal.returns-else-left-eq0
 returns-else-left-eq0 c =
-    subst (λ (l : Listing). Forgets c.args.id c.args.places.now l _) c.self.view_is (record {
+    let new : Listing = record { terms = keys c.self.inside.map; lists = values c.self.inside.map; counts = c.count_less-left.new.counts.items; pairs = c.self.inside.pairs - 1; room = c.self.inside.room } in
+    subst (λ (l : Listing). Forgets c.args.id c.args.places.now l new) c.self.view_is (record {
       lists = not_last (λ ps. StepsAt (Takes c.args.id) ps (values c.self.inside.map) (values c.self.inside.map)) (get_or c.self.inside.counts.items c.args.id 0) c.count_less-left.result c.args.places.now c.count_less-left.ensures.left c.if-left-eq0.false (steps_none (Takes c.args.id) (values c.self.inside.map));
       terms = refl;
       counts = c.count_less-left.ensures.counts;

@@ -34,8 +34,9 @@ returns-then-was c =
 
 pub returns-else-was : goal.returns-else-was
 returns-else-was c =
+    let new : Listing = record { terms = keys c.give_rooms.new.map; lists = values c.give_rooms.new.map; counts = c.self.inside.counts.items; pairs = c.self.inside.pairs; room = c.self.inside.room } in
     let was = there_taken c.args.id c.args.first c.args.others.now (c.args.first ∷ c.args.others.now) (values c.self.inside.map) c.take_at-was.result refl c.take_at-was.ensures.was in
-    subst (λ (l : Listing). Removes c.args.id (c.args.first ∷ c.args.others.now) l _) c.self.view_is (record {
+    subst (λ (l : Listing). Removes c.args.id (c.args.first ∷ c.args.others.now) l new) c.self.view_is (record {
       mid = values c.take_at-was.new.map;
       given = values c.give_rooms.new.map;
       there = false;

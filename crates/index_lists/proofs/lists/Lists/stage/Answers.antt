@@ -14,9 +14,9 @@ use Rattle.index_lists.proofs.lists.Lists.stage.Goals as goal
 pub returns-in_err-count_to-clause-err : goal.returns-in_err-count_to-clause-err
 returns-in_err-count_to-clause-err c =
     on_err c.from_residual.result (λ prepared ready.
-        grown_ready (the_view c.self.inside) _ (same_long c.self.inside.map.entries)
-        (record { mids = values c.self.inside.map; grows = grows_none (keys c.self.inside.map) (values c.self.inside.map); kept = keeps_none (values c.self.inside.map); longer = c.count_to.ensures.long; same = c.count_to.ensures.same; pairs = refl; room = omega arith })
-        prepared (subst (λ (l : Listing). AreReady l prepared) (sym c.self.view_is) ready))
+    grown_ready (the_view c.self.inside) _ (same_long c.self.inside.map.entries)
+    (record { mids = values c.self.inside.map; grows = grows_none (keys c.self.inside.map) (values c.self.inside.map); kept = keeps_none (values c.self.inside.map); longer = c.count_to.ensures.long; same = c.count_to.ensures.same; pairs = refl; room = omega arith })
+    prepared (subst (λ (l : Listing). AreReady l prepared) (sym c.self.view_is) ready))
 
 pub returns-in_err-count_to-clause-holds : goal.returns-in_err-count_to-clause-holds
 returns-in_err-count_to-clause-holds c pairs holds =
@@ -27,9 +27,9 @@ returns-in_err-count_to-clause-holds c pairs holds =
 pub returns-in_err-places-clause-err : goal.returns-in_err-places-clause-err
 returns-in_err-places-clause-err c =
     on_err c.from_residual-in_err-places.result (λ prepared ready.
-        grown_ready (the_view c.self.inside) _ (same_long c.self.inside.map.entries)
-        (record { mids = values c.places_of.new.map; grows = c.places_of.ensures.grows; kept = keeps_none (values c.places_of.new.map); longer = c.count_to.ensures.long; same = c.count_to.ensures.same; pairs = refl; room = omega arith })
-        prepared (subst (λ (l : Listing). AreReady l prepared) (sym c.self.view_is) ready))
+    grown_ready (the_view c.self.inside) _ (same_long c.self.inside.map.entries)
+    (record { mids = values c.places_of.new.map; grows = c.places_of.ensures.grows; kept = keeps_none (values c.places_of.new.map); longer = c.count_to.ensures.long; same = c.count_to.ensures.same; pairs = refl; room = omega arith })
+    prepared (subst (λ (l : Listing). AreReady l prepared) (sym c.self.view_is) ready))
 
 pub returns-in_err-places-clause-holds : goal.returns-in_err-places-clause-holds
 returns-in_err-places-clause-holds c pairs holds =
@@ -41,9 +41,9 @@ pub returns-in_err-make_rooms-clause-err : goal.returns-in_err-make_rooms-clause
 returns-in_err-make_rooms-clause-err c =
     let grows = subst (λ (ts : List Term). Grows (keys c.self.inside.map) (values c.self.inside.map) ts (values c.places_of.new.map)) (sym c.make_rooms.ensures.terms) c.places_of.ensures.grows in
     on_err c.from_residual-in_err-make_rooms.result (λ prepared ready.
-        grown_ready (the_view c.self.inside) _ (same_long c.self.inside.map.entries)
-        (record { mids = values c.places_of.new.map; grows = grows; kept = c.in_err-make_rooms.ensures.err; longer = c.count_to.ensures.long; same = c.count_to.ensures.same; pairs = refl; room = omega arith })
-        prepared (subst (λ (l : Listing). AreReady l prepared) (sym c.self.view_is) ready))
+    grown_ready (the_view c.self.inside) _ (same_long c.self.inside.map.entries)
+    (record { mids = values c.places_of.new.map; grows = grows; kept = c.in_err-make_rooms.ensures.err; longer = c.count_to.ensures.long; same = c.count_to.ensures.same; pairs = refl; room = omega arith })
+    prepared (subst (λ (l : Listing). AreReady l prepared) (sym c.self.view_is) ready))
 
 pub returns-in_err-make_rooms-clause-holds : goal.returns-in_err-make_rooms-clause-holds
 returns-in_err-make_rooms-clause-holds c pairs holds =

@@ -1,7 +1,0 @@
-ghost use Rattle.std.specs.Prelude.{⊤};
-
-pub fn trial() -> bool
-    ensures { ⊤ }
-{
-    true
-}
