@@ -1,10 +1,9 @@
 -- What the lists are after a change that was made.
-use Rattle.std.proofs.Common.{◌≡◌, ℕ, zero, suc, ◌+◌, ◌-◌, ◌<◌, ◌≤◌, ◌&&◌, ◌||◌, Bool, true, false, cond, not, nat_eq, List, [], ◌∷◌, map, length, filter, get_or, set, Some, None, slice_get, ◌⊎◌, inl, inr, if◌then◌else◌, refl, sym, ap, ◌∙◌, subst, ⊎_elim, arith}
+use Rattle.std.proofs.Common.{◌≡◌, ℕ, zero, suc, ◌+◌, ◌-◌, ◌<◌, ◌≤◌, ◌&&◌, ◌||◌, Bool, true, false, cond, not, nat_eq, List, [], ◌∷◌, length, get_or, Some, slice_get, inl, inr, if◌then◌else◌, refl, sym, ap, ◌∙◌, subst, ⊎_elim, arith}
 use Rattle.std.specs.List.{AllByRecursion, count_by, list_any}
 use Rattle.std.specs.List.Sorted.{IsStrictlySortedBy}
 use Rattle.std.specs.Ordering.{nat_cmp}
-use Rattle.std.specs.Str.{bytes_eq}
-use Rattle.std.proofs.lemmas.Bool.{cases_Bool, false≢true}
+use Rattle.std.proofs.lemmas.Bool.{cases_Bool}
 use Rattle.std.proofs.lemmas.Bool.Decides.{nat_tests}
 use Rattle.std.proofs.lemmas.List.Sums.{count_by-le-length}
 use Rattle.tsdb_types.specs.Series.{IsSeriesText}
@@ -14,10 +13,10 @@ use Rattle.index_lists.specs.declared.term.Term.TheVariants.{Field}
 use Rattle.index_lists.specs.Listing.{AreIdsOf, Holds, IsKnown, Listed, Listing, Puts, Takes, is_listed}
 use Rattle.index_lists.specs.Making.{Adds, IsThere, Removes, first_of, others_of}
 use Rattle.index_lists.specs.Pairs.{Agrees, Pair, after, is_in, is_same, pair_of, with_pair, without_pair}
-use Rattle.index_lists.specs.Ready.{IsReady, Prepared, StandAt}
-use Rattle.index_lists.specs.Steps.{GivesRoom, StepsAt, Times}
+use Rattle.index_lists.specs.Ready.{IsReady, Prepared}
+use Rattle.index_lists.specs.Steps.{Times}
 use Rattle.index_lists.specs.Terms.{is_field, is_of, measurement_of, series_terms, terms_of}
-use Rattle.index_lists.proofs.PairLemmas.{In, added, all_filter, all_from, all_in, any_in, both_ways, fewer, filter_in, in_any, in_filter, nat_same, not_false, not_true, parts_same, picked, picks, removed_field, removed_last, removed_other, removed_some, same_nat, same_parts, same_truth, some_counted}
+use Rattle.index_lists.proofs.PairLemmas.{In, added, all_filter, all_from, all_in, any_in, both_ways, fewer, filter_in, in_any, in_filter, nat_same, not_false, picks, removed_field, removed_last, removed_other, removed_some, same_nat, same_parts, same_truth, some_counted}
 use Rattle.index_lists.proofs.StepLemmas.{bit, count_cons}
 use Rattle.index_lists.proofs.TermLemmas.{Apart, counted_at, in_of, not_counted, of_in, series_plain, wanted_at}
 use Rattle.index_lists.proofs.HoldLemmas.{FirstPlace, agree_less, agree_more, and_false, and_true, counts_less, counts_more, first_place, give_ids, length_less, once_more, one_less, put_sorted, put_times, take_sorted, take_times, there_is}

@@ -1,25 +1,21 @@
 -- A change that is made keeps that the lists are those of the pairs.
-use Rattle.std.proofs.Common.{◌≡◌, ◌≢◌, ℕ, zero, suc, ◌+◌, ◌-◌, ◌<◌, ◌≤◌, ◌&&◌, ◌||◌, Bool, true, false, cond, not, nat_eq, List, [], ◌∷◌, map, length, filter, get_or, set, Some, None, slice_get, ◌⊎◌, inl, inr, if◌then◌else◌, refl, sym, ap, ◌∙◌, subst, ⊎_elim, arith}
+use Rattle.std.proofs.Common.{◌≡◌, ℕ, zero, suc, ◌+◌, ◌-◌, ◌<◌, ◌≤◌, ◌&&◌, ◌||◌, Bool, true, false, not, nat_eq, List, [], ◌∷◌, length, get_or, set, Some, slice_get, refl, sym, ap, ◌∙◌, subst, ⊎_elim, arith}
 use Rattle.std.specs.List.{AllByRecursion, count_by, list_any}
 use Rattle.std.specs.List.Sorted.{IsStrictlySortedBy}
 use Rattle.std.specs.Ordering.{nat_cmp}
 use Rattle.std.specs.Str.{bytes_eq}
-use Rattle.std.proofs.lemmas.Bool.{cases_Bool, false≢true}
-use Rattle.std.proofs.lemmas.Bool.Decides.{nat_tests}
+use Rattle.std.proofs.lemmas.Bool.{cases_Bool}
 use Rattle.std.proofs.lemmas.List.{get_or-set_same, get_or-set_other}
-use Rattle.std.proofs.lemmas.List.Sums.{count_by-le-length, length-filter}
-use Rattle.tsdb_types.specs.Series.{IsSeriesText}
 use Rattle.index_lists.specs.declared.term.Term.{Term}
 use Rattle.index_lists.specs.declared.term.Term.TheVariants.{Field}
-use Rattle.index_lists.specs.Listing.{AreIdsOf, Holds, IsKnown, Listed, Listing, Puts, Takes, is_listed}
-use Rattle.index_lists.specs.Making.{Adds, IsThere, Removes, first_of, others_of}
-use Rattle.index_lists.specs.Pairs.{Agrees, Pair, after, is_in, is_same, pair_of, with_pair, without_pair}
-use Rattle.index_lists.specs.Ready.{IsReady, Prepared, StandAt}
-use Rattle.index_lists.specs.Steps.{GivesRoom, StepsAt, Times}
-use Rattle.index_lists.specs.Terms.{is_field, is_of, measurement_of, series_terms, terms_of}
-use Rattle.index_lists.proofs.PairLemmas.{In, added, all_filter, all_from, all_in, and_both, and_first, and_second, any_in, as_many, both_ways, counted_some, fewer, filter_in, in_any, nat_same, none_counted, not_false, not_true, of_same, or_right, parted, parts_same, picked, picks, picks_it, removed_field, removed_last, removed_other, removed_some, same_nat, same_parts, same_text, same_truth, some_counted, text_same}
+use Rattle.index_lists.specs.Listing.{Holds, Listed, Listing, Puts, Takes, is_listed}
+use Rattle.index_lists.specs.Making.{IsThere}
+use Rattle.index_lists.specs.Pairs.{Agrees, Pair, is_in, is_same, without_pair}
+use Rattle.index_lists.specs.Ready.{StandAt}
+use Rattle.index_lists.specs.Steps.{GivesRoom, Times}
+use Rattle.index_lists.specs.Terms.{measurement_of, series_terms, terms_of}
+use Rattle.index_lists.proofs.PairLemmas.{all_filter, all_from, all_in, and_both, and_second, any_in, as_many, both_ways, filter_in, in_any, nat_same, none_counted, not_false, parted, parts_same, picked, picks, picks_it, same_nat, same_parts, same_text, same_truth, some_counted, text_same}
 use Rattle.index_lists.proofs.StepLemmas.{bit, count_cons}
-use Rattle.index_lists.proofs.TermLemmas.{Apart, counted_at, in_of, not_counted, of_in, series_plain, wanted_at}
 
 -- ---- several steps of one list
 

@@ -1,12 +1,12 @@
 -- Steps at the first place and at the others.
-use Rattle.std.proofs.Common.{◌≡◌, ℕ, zero, suc, ◌+◌, ◌-◌, ◌<◌, ◌≤◌, Bool, true, false, not, cond, nat_eq, List, [], ◌∷◌, ◌++◌, length, get_or, set, Some, slice_get, if◌then◌else◌, refl, sym, ap, ◌∙◌, subst, arith}
+use Rattle.std.proofs.Common.{◌≡◌, ℕ, zero, suc, ◌+◌, Bool, true, false, not, nat_eq, List, [], ◌∷◌, length, Some, slice_get, if◌then◌else◌, refl, sym, ap, ◌∙◌, subst, arith}
 use Rattle.std.specs.List.{count_by}
 use Rattle.std.proofs.lemmas.Bool.Decides.{nat_tests}
 use Rattle.index_lists.specs.Listing.{Listed, Listing, Puts, Takes, is_listed}
-use Rattle.index_lists.specs.Making.{Adds, IsThere, Removes, first_of, others_of}
+use Rattle.index_lists.specs.Making.{Adds, IsThere, Removes, first_of}
 use Rattle.index_lists.specs.Steps.{GivesRoom, HaveRoom, StepsAt, Times}
 use Rattle.index_lists.proofs.HoldLemmas.{put_room}
-use Rattle.index_lists.proofs.StepLemmas.{bit, count_cons, steps_none}
+use Rattle.index_lists.proofs.StepLemmas.{count_cons, steps_none}
 
 times_add : (Step : Listed → Listed → Type 0) (m n k : ℕ) (old mid new : Listed) → k ≡ n + m → Times Step m old mid → Times Step n mid new → Times Step k old new
 times_add Step m zero k old mid new e a b = let is : m ≡ k = omega (arith, e) in subst (λ (j : ℕ). Times Step j old new) is (subst (λ (l : Listed). Times Step m old l) (sym b) a)

@@ -1,25 +1,21 @@
 -- Changes that are ready stay so, and the lists stay those of the pairs, while another is made ready.
-use Rattle.std.proofs.Common.{◌≡◌, ℕ, zero, suc, ◌+◌, ◌-◌, ◌<◌, ◌≤◌, ◌^◌, Bool, true, false, cond, nat_eq, List, [], ◌∷◌, ◌++◌, map, length, get_or, set, take, replicate, is_some, Option, Some, None, slice_get, ◌⊎◌, inl, inr, if◌then◌else◌, refl, sym, ap, ◌∙◌, subst, ⊎_elim, arith}
+use Rattle.std.proofs.Common.{◌≡◌, ℕ, zero, suc, ◌+◌, ◌-◌, ◌<◌, ◌≤◌, Bool, true, false, cond, nat_eq, List, [], ◌∷◌, ◌++◌, map, length, get_or, set, take, replicate, Some, None, slice_get, ◌⊎◌, inl, inr, if◌then◌else◌, refl, sym, ap, ◌∙◌, subst, ⊎_elim, arith}
 use Rattle.std.specs.List.{AllByRecursion, count_by, list_any}
-use Rattle.std.specs.List.Sorted.{IsStrictlySortedBy}
 use Rattle.std.specs.Map.{keys_of, lookup, values_of}
-use Rattle.std.specs.Ordering.{nat_cmp}
-use Rattle.std.proofs.lemmas.Bool.{cases_Bool, false≢true}
-use Rattle.std.proofs.lemmas.Bool.Decides.{nat_tests}
+use Rattle.std.proofs.lemmas.Bool.{cases_Bool}
 use Rattle.std.proofs.lemmas.List.{length-set, take_all}
 use Rattle.std.proofs.lemmas.List.Sums.{count_by-le-length}
-use Rattle.tsdb_types.specs.Series.{IsSeriesText}
 use Rattle.index_lists.specs.declared.term.Term.{Term}
-use Rattle.index_lists.specs.Listing.{AreIdsOf, Holds, IsKnown, Listed, Listing, Puts, is_listed}
-use Rattle.index_lists.specs.Pairs.{Agrees, Pair, is_same}
+use Rattle.index_lists.specs.Listing.{AreIdsOf, Holds, IsKnown, Listed, Listing}
+use Rattle.index_lists.specs.Pairs.{Pair}
 use Rattle.index_lists.specs.Ready.{AreReady, IsReady, Prepared, StandAt, uses}
 use Rattle.index_lists.specs.Making.{Adds, Removes}
-use Rattle.index_lists.specs.Steps.{GivesRoom, Grows, HasIds, HaveRoom, KeepsIds, MakesRoom, StepsAt, Times, no_ids}
+use Rattle.index_lists.specs.Steps.{GivesRoom, Grows, HasIds, HaveRoom, KeepsIds, MakesRoom, StepsAt, no_ids}
 use Rattle.index_lists.specs.Terms.{is_of, terms_of}
 use Rattle.index_lists.proofs.HoldLemmas.{give_ids, give_room, put_room, take_room}
 use Rattle.index_lists.proofs.IdLemmas.{none_ascend}
-use Rattle.index_lists.proofs.PairLemmas.{In, all_in, any_in, not_false, none_counted, picks, picked, same_nat}
-use Rattle.index_lists.proofs.PlaceLemmas.{TellsTerms, all_weaker, front_get, known_front, rooms_kept, stand_grows}
+use Rattle.index_lists.proofs.PairLemmas.{all_in, any_in, not_false, none_counted, picks, picked, same_nat}
+use Rattle.index_lists.proofs.PlaceLemmas.{TellsTerms, all_weaker, known_front, rooms_kept, stand_grows}
 use Rattle.index_lists.proofs.StepLemmas.{Entry}
 use Rattle.index_lists.proofs.TermLemmas.{place_of}
 

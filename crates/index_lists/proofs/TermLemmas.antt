@@ -1,13 +1,11 @@
 -- Which terms are of a series and a field, and where do they stand?
-use Rattle.std.proofs.Common.{◌≡◌, ℕ, zero, suc, ◌+◌, ◌<◌, ◌≤◌, ◌&&◌, ◌||◌, Bool, true, false, not, nat_eq, List, [], ◌∷◌, ◌++◌, map, length, Option, Some, None, slice_get, ◌⊎◌, inl, inr, refl, sym, ap, ◌∙◌, subst, ⊎_elim, arith}
-use Rattle.std.specs.List.{AllByRecursion, count_by, list_any}
+use Rattle.std.proofs.Common.{◌≡◌, ℕ, ◌<◌, ◌&&◌, true, false, nat_eq, List, [], ◌∷◌, ◌++◌, map, Some, slice_get, inl, inr, refl, sym, ap, ◌∙◌, subst, ⊎_elim}
+use Rattle.std.specs.List.{count_by}
 use Rattle.std.specs.Str.{bytes_eq}
-use Rattle.std.proofs.lemmas.Bool.{cases_Bool, false≢true}
 use Rattle.tsdb_types.specs.declared.tag.Tag.{Tag}
 use Rattle.point_model.specs.Tags.{tags_in}
 use Rattle.index_lists.specs.declared.term.Term.{Term}
 use Rattle.index_lists.specs.declared.term.Term.TheVariants.{Measurement, Field, TagKey, TagValue}
-use Rattle.index_lists.specs.Listing.{IsKnown}
 use Rattle.index_lists.specs.Ready.{StandAt}
 use Rattle.index_lists.specs.Terms.{has_key, has_value, is_field, is_of, measurement_of, series_terms, tag_terms, tags_terms, terms_of}
 use Rattle.index_lists.proofs.PairLemmas.{In, and_both, and_first, and_second, any_in, in_any, nat_same, same_nat, same_text, some_counted, text_same, none_counted}

@@ -1,6 +1,6 @@
 -- When is a change ready to be made, so that making it takes no memory?
-use Rattle.std.specs.Prelude.{◌≡◌, ℕ, ◌+◌, ◌<◌, ◌≤◌, Bool, true, ◌&&◌, nat_eq, List, [], ◌∷◌, length, count_by, slice_get, Some, map}
-use Rattle.std.specs.List.{AllByRecursion, list_any}
+use Rattle.std.specs.Prelude.{◌≡◌, ℕ, ◌+◌, ◌<◌, ◌≤◌, nat_eq, List, [], ◌∷◌, length, count_by, slice_get, Some, map}
+use Rattle.std.specs.List.{AllByRecursion}
 use Rattle.tsdb_types.specs.Series.{IsSeriesText}
 use Rattle.index_lists.specs.declared.change.IndexChange.{IndexChange}
 use Rattle.index_lists.specs.declared.term.Term.{Term}

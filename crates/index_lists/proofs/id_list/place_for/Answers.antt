@@ -1,4 +1,4 @@
-use Rattle.std.proofs.Common.{◌≡◌, ℕ, ◌-◌, ◌<◌, List, length, get_or, Some, slice_get, sym, ap, ◌∙◌, subst, rules}
+use Rattle.std.proofs.Common.{ℕ, ◌-◌, ◌<◌, length, sym, subst, rules}
 use Rattle.std.proofs.lemmas.Option.{get_or_from_slice_get}
 use Rattle.index_lists.proofs.IdLemmas.{above_last, found_there, not_found}
 use Rattle.index_lists.proofs.id_list.place_for.Goals as goal

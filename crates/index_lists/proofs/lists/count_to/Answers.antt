@@ -1,4 +1,4 @@
-use Rattle.std.proofs.Common.{◌≡◌, ◌+◌, ◌≤◌, ℕ, List, get_or, refl, sym, ap, ◌∙◌, arith}
+use Rattle.std.proofs.Common.{◌+◌, ℕ, List, get_or, ap, ◌∙◌, arith}
 use Rattle.index_lists.proofs.ReadyLemmas.{zeros}
 use Rattle.index_lists.proofs.lists.count_to.Goals as goal
 

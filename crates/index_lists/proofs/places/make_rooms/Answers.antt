@@ -1,5 +1,5 @@
 use Rattle.std.proofs.Common.{List, refl, sym, ◌∙◌, subst, take}
-use Rattle.indexmap.specs.IndexMap.{keys, values}
+use Rattle.indexmap.specs.IndexMap.{values}
 use Rattle.index_lists.specs.Listing.{Listed}
 use Rattle.index_lists.specs.Steps.{KeepsIds, MakesRoom}
 use Rattle.index_lists.proofs.PlaceLemmas.{on_err, steps_keep}

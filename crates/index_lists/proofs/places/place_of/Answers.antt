@@ -1,11 +1,11 @@
-use Rattle.std.proofs.Common.{◌≡◌, ℕ, List, [], ◌∷◌, ◌++◌, Some, None, slice_get, length, refl, sym, ap, ◌∙◌, subst, rules}
+use Rattle.std.proofs.Common.{◌≡◌, ℕ, List, [], ◌∷◌, ◌++◌, slice_get, sym, ap, ◌∙◌, subst}
 use Rattle.std.specs.Map.{keys_of, values_of}
 use Rattle.std.proofs.lemmas.List.{map-append}
 use Rattle.indexmap.specs.IndexMap.{keys, values}
 use Rattle.indexmap.proofs.CallerLemmas.{insert_entry-new}
 use Rattle.index_lists.specs.declared.term.Term.{Term}
 use Rattle.index_lists.specs.Listing.{Listed}
-use Rattle.index_lists.specs.Steps.{Grows, no_ids}
+use Rattle.index_lists.specs.Steps.{Grows}
 use Rattle.index_lists.proofs.StepLemmas.{Entry}
 use Rattle.index_lists.proofs.PlaceLemmas.{found_place, grows_none, grows_one, keys_long, last_get, none_is, not_known}
 use Rattle.index_lists.proofs.TellsLemmas.{same_term, tells}

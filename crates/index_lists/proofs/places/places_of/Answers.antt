@@ -1,4 +1,4 @@
-use Rattle.std.proofs.Common.{◌≡◌, ℕ, List, [], ◌∷◌, ◌++◌, Some, slice_get, map, refl, sym, ap, ◌∙◌, subst}
+use Rattle.std.proofs.Common.{◌≡◌, ℕ, List, [], ◌∷◌, ◌++◌, Some, slice_get, map, ap, ◌∙◌, subst}
 use Rattle.indexmap.specs.IndexMap.{keys, values}
 use Rattle.index_lists.specs.declared.term.Term.{Term}
 use Rattle.index_lists.specs.declared.term.Term.TheVariants.{Field}

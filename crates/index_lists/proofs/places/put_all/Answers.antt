@@ -1,5 +1,5 @@
 use Rattle.std.proofs.Common.{refl, ◌∙◌}
-use Rattle.indexmap.specs.IndexMap.{keys, values}
+use Rattle.indexmap.specs.IndexMap.{values}
 use Rattle.index_lists.specs.Listing.{Puts}
 use Rattle.index_lists.proofs.PlaceLemmas.{room_first, room_rest}
 use Rattle.index_lists.proofs.StepLemmas.{steps_all, steps_more, steps_none}

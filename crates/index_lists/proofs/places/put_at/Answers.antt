@@ -1,11 +1,9 @@
-use Rattle.std.proofs.Common.{◌≡◌, ℕ, List, [], ◌∷◌, ◌++◌, length, not, false, true, is_some, Some, None, slice_get, map, inl, inr, refl, sym, ap, ◌∙◌, subst, arith, append_assoc, append-nil}
-use Rattle.std.proofs.lemmas.Result.{on_ok_weaker, on_err_weaker}
-use Rattle.indexmap.specs.IndexMap.{keys, values}
+use Rattle.std.proofs.Common.{not, sym, ap, ◌∙◌}
+use Rattle.indexmap.specs.IndexMap.{values}
 use Rattle.indexmap.proofs.CallerLemmas.{keys-with_value_at}
-use Rattle.index_lists.specs.Listing.{Listed, Puts, Takes, is_listed}
-use Rattle.index_lists.specs.Steps.{GivesRoom, MakesRoom}
+use Rattle.index_lists.specs.Listing.{Listed, Puts, is_listed}
 use Rattle.index_lists.proofs.PlaceLemmas.{no_value, one_room, one_value}
-use Rattle.index_lists.proofs.StepLemmas.{set_back, steps_nowhere, steps_set}
+use Rattle.index_lists.proofs.StepLemmas.{steps_nowhere, steps_set}
 use Rattle.index_lists.proofs.places.put_at.Goals as goal
 
 pub returns-in-Some-clause-puts : goal.returns-in-Some-clause-puts

@@ -1,7 +1,6 @@
 use Rattle.std.proofs.Common.{refl, ◌∙◌}
-use Rattle.indexmap.specs.IndexMap.{keys, values}
+use Rattle.indexmap.specs.IndexMap.{values}
 use Rattle.index_lists.specs.Listing.{Takes}
-use Rattle.index_lists.specs.Steps.{GivesRoom}
 use Rattle.index_lists.proofs.StepLemmas.{steps_all, steps_more, steps_none}
 use Rattle.index_lists.proofs.places.take_all.Goals as goal
 

@@ -1,4 +1,4 @@
-use Rattle.std.proofs.Common.{◌≡◌, ℕ, List, [], ◌∷◌, ◌++◌, length, map, false, sym, ap, ◌∙◌, append_assoc, append-nil, arith}
+use Rattle.std.proofs.Common.{ℕ, List, ◌++◌, length, map, false, sym, ap, ◌∙◌, append_assoc, arith}
 use Rattle.point_model.specs.Tags.{parts_behind, tag_of}
 use Rattle.point_model.proofs.TagLemmas.{parts-step, rest-le}
 use Rattle.index_lists.specs.declared.term.Term.{Term}

@@ -1,4 +1,4 @@
-use Rattle.std.proofs.Common.{◌≡◌, ◌+◌, ◌≤◌, List, ℕ, [], length, sym, subst, ap, arith}
+use Rattle.std.proofs.Common.{List, ℕ, length, sym, subst, ap, arith}
 use Rattle.std.specs.List.Sorted.{IsStrictlySortedBy}
 use Rattle.std.specs.Ordering.{nat_cmp}
 use Rattle.index_lists.proofs.IdLemmas.{none_ascend}

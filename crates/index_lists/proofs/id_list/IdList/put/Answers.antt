@@ -1,8 +1,8 @@
-use Rattle.std.proofs.Common.{◌≡◌, ◌+◌, ◌-◌, ◌<◌, ◌≤◌, ◌||◌, true, not, nat_eq, List, ℕ, length, insert, sym, ap, ◌∙◌, subst, arith, rules}
+use Rattle.std.proofs.Common.{◌+◌, ◌<◌, ◌||◌, not, nat_eq, List, ℕ, insert, sym, ap, ◌∙◌, subst, arith}
 use Rattle.std.specs.List.Sorted.{IsStrictlySortedBy}
 use Rattle.std.specs.Ordering.{nat_cmp}
 use Rattle.std.specs.Vec.{vec_len, vec_capacity}
-use Rattle.index_lists.specs.Listing.{Listed, Puts, is_listed}
+use Rattle.index_lists.specs.Listing.{Listed, is_listed}
 use Rattle.index_lists.specs.Searching.{IsPlaceFor}
 use Rattle.index_lists.proofs.IdLemmas.{none_more, ok_then, put_ascends, put_has}
 use Rattle.index_lists.proofs.id_list.IdList.put.Goals as goal

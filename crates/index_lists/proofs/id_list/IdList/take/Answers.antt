@@ -1,8 +1,7 @@
-use Rattle.std.proofs.Common.{◌≡◌, ◌+◌, ◌-◌, ◌<◌, ◌≤◌, ◌&&◌, true, false, not, nat_eq, get_or, List, ℕ, length, Ok, Err, remove, sym, ap, ◌∙◌, subst, refl, arith, rules}
+use Rattle.std.proofs.Common.{◌&&◌, not, nat_eq, List, ℕ, Ok, Err, sym, ap, ◌∙◌, subst, refl, arith}
 use Rattle.std.specs.List.Sorted.{IsBinarySearchResult, IsStrictlySortedBy}
 use Rattle.std.specs.Ordering.{nat_cmp}
-use Rattle.std.specs.Vec.{vec_len, vec_capacity}
-use Rattle.index_lists.specs.Listing.{Listed, Takes, is_listed}
+use Rattle.index_lists.specs.Listing.{Listed, is_listed}
 use Rattle.index_lists.proofs.IdLemmas.{found_at, found_there, none_less, not_found, taken_ascends, taken_has}
 use Rattle.index_lists.proofs.id_list.IdList.take.Goals as goal
 

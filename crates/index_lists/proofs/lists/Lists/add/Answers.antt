@@ -1,4 +1,4 @@
-use Rattle.std.proofs.Common.{◌≡◌, ◌∷◌, [], ℕ, List, sym, subst}
+use Rattle.std.proofs.Common.{ℕ, List, sym, subst}
 use Rattle.index_lists.specs.Making.{Adds}
 use Rattle.index_lists.specs.Steps.{HaveRoom}
 use Rattle.index_lists.proofs.MakingLemmas.{adds_none, no_places}

@@ -1,9 +1,8 @@
-use Rattle.std.proofs.Common.{◌≡◌, ◌+◌, ◌∷◌, [], true, false, not, Bool, ℕ, List, refl, sym, ap, ◌∙◌, subst, arith}
+use Rattle.std.proofs.Common.{◌+◌, ◌∷◌, true, false, not, Bool, refl, sym, ◌∙◌, subst}
 use Rattle.indexmap.specs.IndexMap.{keys, values}
-use Rattle.index_lists.specs.Listing.{Listed, Listing, Puts}
+use Rattle.index_lists.specs.Listing.{Listing, Puts}
 use Rattle.index_lists.specs.Making.{Adds, IsThere}
 use Rattle.index_lists.specs.Steps.{HaveRoom}
-use Rattle.index_lists.specs.contracts.lists.Lists.{the_view}
 use Rattle.index_lists.proofs.MakingLemmas.{first_has_room, others_have_room, steps_cons, there_put}
 use Rattle.index_lists.proofs.lists.Lists.add_at.Goals as goal
 

@@ -1,8 +1,8 @@
-use Rattle.std.proofs.Common.{◌≡◌, ◌+◌, ◌-◌, ◌<◌, ◌≤◌, ◌∷◌, [], ℕ, Bool, true, false, List, length, get_or, refl, sym, ap, ◌∙◌, subst, arith}
+use Rattle.std.proofs.Common.{◌≡◌, ◌-◌, ◌<◌, ◌∷◌, ℕ, true, false, List, length, get_or, refl, sym, ap, ◌∙◌, subst, arith}
 use Rattle.indexmap.specs.IndexMap.{keys, values}
 use Rattle.index_lists.specs.Listing.{Holds, Listing}
 use Rattle.index_lists.specs.Making.{Adds, IsThere, Removes}
-use Rattle.index_lists.specs.Pairs.{Agrees, Pair, pair_of}
+use Rattle.index_lists.specs.Pairs.{Pair}
 use Rattle.index_lists.specs.Ready.{AreReady, IsReady, Prepared}
 use Rattle.index_lists.specs.Steps.{HaveRoom}
 use Rattle.index_lists.specs.contracts.lists.Lists.{the_view}

@@ -1,10 +1,8 @@
-use Rattle.std.proofs.Common.{◌≡◌, ◌+◌, ◌-◌, [], true, false, Bool, nat_eq, ℕ, List, get_or, set, refl, sym, ap, ◌∙◌, subst, if◌then◌else◌, arith}
-use Rattle.std.proofs.lemmas.Bool.Decides.{nat_tests}
+use Rattle.std.proofs.Common.{◌-◌, get_or, refl, subst}
 use Rattle.indexmap.specs.IndexMap.{keys, values}
-use Rattle.index_lists.specs.Listing.{Listed, Listing, Takes}
+use Rattle.index_lists.specs.Listing.{Listing, Takes}
 use Rattle.index_lists.specs.Making.{Forgets}
 use Rattle.index_lists.specs.Steps.{StepsAt}
-use Rattle.index_lists.specs.contracts.lists.Lists.{the_view}
 use Rattle.index_lists.proofs.MakingLemmas.{last_one, not_last}
 use Rattle.index_lists.proofs.StepLemmas.{steps_none}
 use Rattle.index_lists.proofs.lists.Lists.forget.Goals as goal

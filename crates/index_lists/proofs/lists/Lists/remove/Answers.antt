@@ -1,4 +1,4 @@
-use Rattle.std.proofs.Common.{◌≡◌, ◌∷◌, [], true, ℕ, List, sym, subst}
+use Rattle.std.proofs.Common.{true, ℕ, List, sym, subst}
 use Rattle.index_lists.specs.Making.{IsThere, Removes}
 use Rattle.index_lists.proofs.MakingLemmas.{removes_none, no_places}
 use Rattle.index_lists.proofs.lists.Lists.remove.Goals as goal

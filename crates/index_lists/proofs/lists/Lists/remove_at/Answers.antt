@@ -1,9 +1,8 @@
-use Rattle.std.proofs.Common.{◌≡◌, ◌∷◌, [], true, false, not, Bool, nat_eq, ℕ, List, get_or, set, ◌<◌, refl, sym, ap, ◌∙◌, subst, if◌then◌else◌, arith}
+use Rattle.std.proofs.Common.{◌∷◌, true, false, Bool, get_or, ◌<◌, refl, sym, ◌∙◌, subst}
 use Rattle.indexmap.specs.IndexMap.{keys, values}
-use Rattle.index_lists.specs.Listing.{Listed, Listing, Takes}
+use Rattle.index_lists.specs.Listing.{Listing, Takes}
 use Rattle.index_lists.specs.Making.{Removes, IsThere}
 use Rattle.index_lists.specs.Steps.{GivesRoom}
-use Rattle.index_lists.specs.contracts.lists.Lists.{the_view}
 use Rattle.index_lists.proofs.MakingLemmas.{steps_cons, there_taken}
 use Rattle.index_lists.proofs.StepLemmas.{steps_none}
 use Rattle.index_lists.proofs.lists.Lists.remove_at.Goals as goal

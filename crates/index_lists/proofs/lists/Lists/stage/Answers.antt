@@ -1,9 +1,9 @@
-use Rattle.std.proofs.Common.{◌≡◌, ◌+◌, ◌-◌, ◌<◌, ◌≤◌, ◌∷◌, ◌++◌, [], ℕ, List, length, get_or, refl, sym, ap, ◌∙◌, subst, arith}
+use Rattle.std.proofs.Common.{ℕ, List, refl, sym, subst, arith}
 use Rattle.indexmap.specs.IndexMap.{keys, values}
 use Rattle.tsdb_types.specs.Series.{IsSeriesText}
 use Rattle.index_lists.specs.declared.term.Term.{Term}
-use Rattle.index_lists.specs.Listing.{Holds, Listed, Listing}
-use Rattle.index_lists.specs.Ready.{AreReady, IsReady, Prepared, StandAt}
+use Rattle.index_lists.specs.Listing.{Holds, Listing}
+use Rattle.index_lists.specs.Ready.{AreReady, Prepared, StandAt}
 use Rattle.index_lists.specs.Steps.{Grows, MakesRoom, StepsAt}
 use Rattle.index_lists.specs.Terms.{terms_of}
 use Rattle.index_lists.specs.contracts.lists.Lists.{the_view}
