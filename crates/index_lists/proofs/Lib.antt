@@ -1,0 +1,10 @@
+mod IdLemmas
+mod StepLemmas
+mod PairLemmas
+mod TermLemmas
+mod HoldLemmas
+mod CommitLemmas
+mod PlaceLemmas
+mod ReadyLemmas
+mod TellsLemmas
+mod MakingLemmas

@@ -1,0 +1,11 @@
+-- The steps at the places so far are made.
+use Rattle.std.proofs.Common.{◌≡◌, take}
+use Rattle.indexmap.specs.IndexMap.{keys, values}
+use Rattle.index_lists.specs.Steps.{MakesRoom, StepsAt}
+use Rattle.index_lists.proofs.places.make_rooms.Given as goal
+
+abbrev pub invariant-loop-place : goal.invariant-loop-place
+invariant-loop-place l = record {
+  terms : keys l.map ≡ keys l.initial.map;
+  steps : StepsAt MakesRoom (take l.place-index l.places) (values l.initial.map) (values l.map);
+}
