@@ -2,12 +2,14 @@
 //! set in memory, and a view shows the points in memory.
 #![tactic(auto)]
 
+mod facts;
 mod settings;
 mod shard;
 mod unheld;
 mod view;
 mod writing;
 
+pub use facts::Facts;
 pub use settings::Settings;
 pub use shard::Shard;
 pub use view::{begin_view, end_view};

@@ -1,0 +1,14 @@
+//! An engine behind a turn, and the store that one client of several has of it.
+#![tactic(auto)]
+
+mod engine;
+mod news;
+mod place;
+mod shared;
+mod steps;
+
+pub use engine::{Engine, Entered, Lent};
+pub use place::Place;
+pub use shared::Shared;
+
+mod probe;
