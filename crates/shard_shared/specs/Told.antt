@@ -5,6 +5,8 @@ use Rattle.shard_disk.specs.declared.disk.Disk.{Ghosts}
 use Rattle.history_turn.specs.declared.view.PassView.{PassView}
 use Rattle.point_model.specs.Histories.{State, nothing}
 use Rattle.store_trait.specs.Told.{Limits, Told}
+use Rattle.store_trait.specs.declared.fault.WriteFault.{WriteFault}
+use Rattle.store_trait.specs.declared.fault.WriteFault.TheVariants as fault
 use Rattle.shard_calls.specs.Told.{limits_of}
 use Rattle.shard_steps.specs.Shards.{state_of}
 use Rattle.shard_steps.specs.declared.shard.Shard.{Shard}
@@ -53,3 +55,12 @@ told_over client series view = record {
 -- Its count is of the faults that it answered. It is steady where the disk was at the start.
 abbrev pub health_by : {D R W : Type 0} → Ghosts D R W → EngineView D → Health
 health_by g view = record { faults = faults_lent view.loans; is_steady = is_steady_at g view.start }
+
+-- whether a refusal tells a fault of the disk
+abbrev pub is_fault : WriteFault → Bool
+is_fault (fault.TypeConflict field held number) = false
+is_fault fault.HistoryFull = false
+is_fault (fault.SeriesFull held) = false
+is_fault (fault.CacheFull held) = false
+is_fault fault.Memory = false
+is_fault fault.Fault = true

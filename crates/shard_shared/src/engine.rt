@@ -50,7 +50,7 @@ impl<D> Engine<D> {
 impl<D: EngineDisk> Counted for Engine<D> {
     ghost use Rattle.std.specs.Prelude.{length, Some, None};
     ghost use Rattle.shard_shared.specs.Entries.{lent_by};
-    ghost use Rattle.shard_shared.specs.Reaching.{ReachesFrom};
+    ghost use Rattle.shard_shared.specs.Reaching.{ComesFrom};
     ghost use Rattle.shard_shared.specs.Told.{number_at};
 
     type Facts = Facts;
@@ -69,7 +69,7 @@ impl<D: EngineDisk> Counted for Engine<D> {
 
     ghost first_faults = { λ _. 0 };
 
-    ghost stands = { λ x s es. ReachesFrom D.Disk s x.faults es x.shard };
+    ghost stands = { λ x s es. ComesFrom D.Disk s x.faults es x.shard };
 
     ghost faults_of = { λ x. x.faults };
 

@@ -5,10 +5,9 @@ mod engine;
 mod news;
 mod place;
 mod shared;
-mod steps;
+mod probe;
 
 pub use engine::{Engine, Entered, Lent};
 pub use place::Place;
 pub use shared::Shared;
 
-mod probe;

@@ -1,43 +1,33 @@
-ghost use Rattle.std.specs.Prelude.{◌≡◌, ◌≤◌, ℕ, length, slice_index_or, All, Some, IsSome, IfSome, false};
-use crate::Engine;
-use history_turn::{Nothing, Pass, Turn};
-use shard_calls::EngineDisk;
-use std::sync::Wait;
-use std::thread;
-use std::thread::Threads;
+use std::collections::{BTreeMap, BTreeSet};
+use std::sync::Arc;
+use tsdb_types::{Cell, Name, SeriesKey};
 
-fn probe<D: EngineDisk, R: Wait>(rt: &R, turn: &Turn<Engine<D>>, pass: &mut Pass<Engine<D>>)
-    requires turn { pass.old.turn ≡ turn.now }
-    requires without_turn { pass.old.view.has_turn ≡ false }
-    ensures turn { pass.new.turn ≡ turn.now }
-    ensures without_turn { pass.new.view.has_turn ≡ false }
-{
-    let held = turn.take(rt, pass);
-    turn.give(pass, held, &Nothing);
+fn need_send<T: Send>(_x: &T) {}
+
+fn p1(x: &point_cache::PointCache) {
+    need_send(x)
 }
 
-struct Probed<P> {
-    pass: Option<P>,
-    report: u64,
+fn p2(x: &BTreeSet<(SeriesKey, Name)>) {
+    need_send(x)
 }
 
-fn probe_one<D: EngineDisk, R: Wait>(rt: &R, turn: &Turn<Engine<D>>, seat: &mut Probed<Pass<Engine<D>>>)
-    requires { IfSome seat.old.pass (λ p. (p.turn ≡ turn.now) × (p.view.has_turn ≡ false)) }
-{
-    if let Some(pass) = &mut seat.pass {
-        probe(rt, turn, pass);
-    }
+fn p3(x: &BTreeMap<Name, BTreeMap<Name, Cell>>) {
+    need_send(x)
 }
 
-fn probe_all<D: EngineDisk, R: Threads + Wait + Sync>(rt: &R, turn: &Turn<Engine<D>>, seats: &mut [Probed<Pass<Engine<D>>>])
-    requires { All (λ seat. IfSome seat.pass (λ p. (p.turn ≡ turn.now) × (p.view.has_turn ≡ false))) seats.old }
-{
-    thread::for_each_mut(
-        rt,
-        seats,
-        2,
-        &|_who, seat: &mut Probed<Pass<Engine<D>>>|
-            requires { IfSome seat.old.pass (λ p. (p.turn ≡ turn.now) × (p.view.has_turn ≡ false)) }
-        { probe_one(rt, turn, seat); },
-    );
+fn p4(x: &point_cache::KeyPoints) {
+    need_send(x)
+}
+
+fn p5(x: &Arc<point_cache::KeyPoints>) {
+    need_send(x)
+}
+
+fn p6(x: &tombstones::TombSet) {
+    need_send(x)
+}
+
+fn p7(x: &live_points::LivePoints) {
+    need_send(x)
 }

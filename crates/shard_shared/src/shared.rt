@@ -1,9 +1,6 @@
 // One client's store of an engine that others share.
-ghost use Rattle.std.specs.Prelude.{◌≡◌, ◌∷◌, false, IfOk, IfErr, IfSome, IfNone, OnOk, OnErr};
-ghost use Rattle.shard_disk.specs.Health.{Health, Ages};
-ghost use Rattle.store_trait.specs.Calls.View.{Begins};
-ghost use Rattle.store_trait.specs.Told.{Keeps, IsAlike};
-ghost use Rattle.shard_shared.specs.Told.{told_over};
+ghost use Rattle.std.specs.Prelude.{◌≡◌, ◌≤◌, false};
+ghost use Rattle.shard_shared.specs.Told.{is_fault};
 
 use crate::news::{Began, Ended, Failed, Wrote};
 use crate::{Engine, Place};
@@ -11,10 +8,14 @@ use crossbeam_utils::Backoff;
 use history_turn::{Nothing, Pass, Turn};
 use point_model::Need;
 use shard_calls::EngineDisk;
+use shard_steps::{begin_view, end_view};
 use std::marker::PhantomData;
 use std::sync::Wait;
 use store_trait::{ListView, Store, ViewFault, WriteFault};
 use tsdb_types::Batch;
+
+/// The last count of faults.
+const LAST_FAULTS: u64 = 18446744073709551614;
 
 /// What one client has of an engine behind a turn. The pass hasn't the turn between calls, and keeps its parts.
 pub struct Shared<'t, D: EngineDisk, R: Wait, P: Place> {
@@ -28,6 +29,7 @@ pub struct Shared<'t, D: EngineDisk, R: Wait, P: Place> {
     ghost of_turn: { pass.turn ≡ P.turn },
     ghost without_turn: { pass.view.has_turn ≡ false },
     ghost of_parts: { pass.view.parts ≡ P.parts },
+    ghost few_series: { series ≤ 10000000 },
 }
 
 impl<'t, D: EngineDisk, R: Wait, P: Place> Shared<'t, D, R, P> {
@@ -58,7 +60,7 @@ impl<'t, D: EngineDisk, R: Wait, P: Place> Shared<'t, D, R, P> {
 
     /// Gives the pass back, which is of the same turn, has the same parts and hasn't the turn.
     pub fn into_pass(self) -> Pass<Engine<D>>
-        ensures pass { result ≡ self.pass }
+        ensures pass { result ≡ self.entry.pass }
         ensures turn { result.turn ≡ P.turn }
         ensures without_turn { result.view.has_turn ≡ false }
         ensures parts { result.view.parts ≡ P.parts }
@@ -84,11 +86,16 @@ impl<'t, D: EngineDisk, R: Wait, P: Place> Store for Shared<'t, D, R, P> {
 
     ghost health = { λ s. health_by D.Disk s.pass.view };
 
+    /// Where no further fault could be counted, the batch is refused for want of memory before anything is done.
     fn write(&mut self, batch: &Batch) -> Result<u64, WriteFault> {
         let mut held = self.turn.take(self.rt, &mut self.pass);
         let engine = held.value();
         self.series = self.series.max(engine.shard.facts().series);
-        match engine.write(self.client, batch) {
+        if engine.faults >= LAST_FAULTS {
+            self.turn.give(&mut self.pass, held, &Nothing);
+            return Err(WriteFault::Memory);
+        }
+        match D::write(&mut engine.shard, self.client, batch) {
             Ok(number) => {
                 let news = Wrote {
                     client: self.client,
@@ -97,11 +104,12 @@ impl<'t, D: EngineDisk, R: Wait, P: Place> Store for Shared<'t, D, R, P> {
                 self.turn.give(&mut self.pass, held, &news);
                 Ok(number)
             }
-            Err(WriteFault::Fault) => {
-                self.turn.give(&mut self.pass, held, &Failed);
-                Err(WriteFault::Fault)
-            }
             Err(fault) => {
+                if tells_fault(&fault) {
+                    engine.faults += 1;
+                    self.turn.give(&mut self.pass, held, &Failed);
+                    return Err(fault);
+                }
                 self.turn.give(&mut self.pass, held, &Nothing);
                 Err(fault)
             }
@@ -114,7 +122,7 @@ impl<'t, D: EngineDisk, R: Wait, P: Place> Store for Shared<'t, D, R, P> {
         for _ in self.rt.forever() {
             let mut held = self.turn.take(self.rt, &mut self.pass);
             let engine = held.value();
-            match engine.begin_view(need) {
+            match begin_view(&mut engine.shard, need) {
                 Ok(view) => {
                     self.turn.give(&mut self.pass, held, &Began);
                     return Ok(view);
@@ -123,10 +131,12 @@ impl<'t, D: EngineDisk, R: Wait, P: Place> Store for Shared<'t, D, R, P> {
                     self.turn.give(&mut self.pass, held, &Nothing);
                     backoff.snooze();
                 }
-                Err(fault) => {
+                Err(ViewFault::Memory) => {
                     self.turn.give(&mut self.pass, held, &Nothing);
-                    return Err(fault);
+                    return Err(ViewFault::Memory);
                 }
+                // The points are in memory.
+                Err(ViewFault::Fault) => unreachable!(),
             }
         }
         unreachable!()
@@ -135,11 +145,29 @@ impl<'t, D: EngineDisk, R: Wait, P: Place> Store for Shared<'t, D, R, P> {
     fn end_view(&mut self, view: ListView) {
         let mut held = self.turn.take(self.rt, &mut self.pass);
         let engine = held.value();
-        engine.end_view(view);
+        end_view(&mut engine.shard, view);
         self.turn.give(&mut self.pass, held, &Ended);
     }
 
     fn number(&mut self) -> u64 {
         self.turn.number(&mut self.pass)
+    }
+}
+
+// Each variant by name, so that a new one is placed here.
+fn tells_fault(fault: &WriteFault) -> bool
+    ensures { result ≡ is_fault fault.now }
+{
+    match fault {
+        WriteFault::TypeConflict {
+            field: _,
+            held: _,
+            number: _,
+        } => false,
+        WriteFault::HistoryFull => false,
+        WriteFault::SeriesFull { held: _ } => false,
+        WriteFault::CacheFull { held: _ } => false,
+        WriteFault::Memory => false,
+        WriteFault::Fault => true,
     }
 }
