@@ -5,7 +5,6 @@ mod engine;
 mod news;
 mod place;
 mod shared;
-mod probe;
 
 pub use engine::{Engine, Entered, Lent};
 pub use place::Place;
