@@ -6,6 +6,7 @@ use Rattle.std.specs.Str.{bytes_eq}
 use Rattle.std.specs.declared.snapshot.Snapshot.{Snapshot}
 use Rattle.std.proofs.lemmas.Bool.{false≢true}
 use Rattle.std.proofs.lemmas.Cmp.{nat_list_eq_equiv}
+use Rattle.std.proofs.lemmas.List.Filters.{length-filter_both}
 use Rattle.std.proofs.lemmas.List.Folds.{list_any-append}
 use Rattle.std.proofs.lemmas.List.Sums.{sum_by-append}
 use Rattle.std.proofs.lemmas.Map.Made.{length-le_from_is_member, is_member-Decides}
@@ -14,7 +15,9 @@ use Rattle.tsdb_types.specs.declared.point.Cell.{Cell}
 use Rattle.tsdb_types.specs.declared.point.Point.{Point}
 use Rattle.tsdb_types.specs.declared.value.Value.{Value}
 use Rattle.point_model.specs.declared.entry.Entry.{Entry}
-use Rattle.point_model.specs.declared.entry.Entry.TheVariants.{Write}
+use Rattle.point_model.specs.declared.deletion.Deletion.{Deletion}
+use Rattle.point_model.specs.declared.entry.Entry.TheVariants.{Write, Delete}
+use Rattle.point_model.specs.Deletions.{is_deleted, without}
 use Rattle.point_model.specs.Histories.{after, with_points}
 use Rattle.point_model.specs.Points.{Points, cell_cmp, with_point}
 use Rattle.store_trait.specs.Calls.Write.{AreKnown, AreNew}
@@ -52,15 +55,24 @@ all_set : (points : Points) (batch : List Point) → length (with_points points 
 all_set points [] = omega arith
 all_set points (point ∷ batch) = let one = one_set points point in let more = all_set (with_point points point) batch in omega (arith, one, more)
 
+few_deleted : (deletion : Deletion) (points : Points) → length (without points deletion) ≤ length points
+few_deleted deletion points =
+    let kept : Cell × Value → Bool = λ point. not (is_deleted deletion point.0) in
+    let both = length-filter_both kept (λ (point : Cell × Value). not (kept point)) (λ point. refl) points in
+    omega (arith, both)
+
 -- entries leave no more points than there were and were written
-pub few_points : (client : ℕ) (points : Points) (batches : List (Snapshot (List Point))) → length (after points (entries_of client batches)) ≤ length points + points_written (entries_of client batches)
-few_points client points [] = omega arith
-few_points client points (batch ∷ batches) =
-    let one = all_set points batch.value in
-    let more : length (after (with_points points batch.value) (entries_of client batches)) ≤ length (with_points points batch.value) + points_written (entries_of client batches) =
-    few_points client (with_points points batch.value) batches in
-    let sum : points_written (Write client batch.value ∷ entries_of client batches) ≡ points_written (Write client batch.value ∷ []) + points_written (entries_of client batches) =
-    sum_by-append points_in (Write client batch.value ∷ []) (entries_of client batches) in
+pub few_left : (points : Points) (entries : List Entry) → length (after points entries) ≤ length points + points_written entries
+few_left points [] = omega arith
+few_left points (Write client batch ∷ entries) =
+    let one = all_set points batch in
+    let more : length (after (with_points points batch) entries) ≤ length (with_points points batch) + points_written entries = few_left (with_points points batch) entries in
+    let sum : points_written (Write client batch ∷ entries) ≡ points_written (Write client batch ∷ []) + points_written entries = sum_by-append points_in (Write client batch ∷ []) entries in
+    omega (arith, one, more, sum)
+few_left points (Delete client deletion ∷ entries) =
+    let one = few_deleted deletion points in
+    let more : length (after (without points deletion) entries) ≤ length (without points deletion) + points_written entries = few_left (without points deletion) entries in
+    let sum : points_written (Delete client deletion ∷ entries) ≡ points_written (Delete client deletion ∷ []) + points_written entries = sum_by-append points_in (Delete client deletion ∷ []) entries in
     omega (arith, one, more, sum)
 
 -- Series.

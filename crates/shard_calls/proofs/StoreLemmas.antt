@@ -31,7 +31,7 @@ use Rattle.shard_steps.specs.Shards.{IsReady, Runs, state_of}
 use Rattle.shard_steps.specs.declared.shard.Shard.{Shard}
 use Rattle.shard_calls.specs.Holds.{HasRun, Holds}
 use Rattle.shard_calls.specs.Told.{limits_of, told_of}
-use Rattle.shard_calls.proofs.CountLemmas.{all_few, all_texts, among_contains, are_known, are_new, contains_among, entries-last, few_points, known_few, known_of, left_true, new_of, numbers-last, or_true, unheld_few}
+use Rattle.shard_calls.proofs.CountLemmas.{all_few, all_texts, among_contains, are_known, are_new, contains_among, entries-last, few_left, known_few, known_of, left_true, new_of, numbers-last, or_true, unheld_few}
 use Rattle.shard_calls.proofs.SeriesLemmas.{texts_in, turned}
 
 -- Results.
@@ -46,7 +46,7 @@ if_ok (Err e) f p q = tt
 
 -- Series that are held.
 
-held_points : (keys : List (List ℕ)) (points : List Point) → AreHeld keys points → (text : List ℕ) → is_among (series_of points) text ≡ true → is_among keys text ≡ true
+pub held_points : (keys : List (List ℕ)) (points : List Point) → AreHeld keys points → (text : List ℕ) → is_among (series_of points) text ≡ true → is_among keys text ≡ true
 held_points keys [] held text there = absurd (false≢true there)
 held_points keys (point ∷ points) held text there = ⊎_elim
     (λ same. turned keys text point.cell.series same ∙ contains_among keys point.cell.series held.0)
@@ -62,7 +62,7 @@ held_texts keys client (batch ∷ batches) held text there = ⊎_elim
     (or_true (is_among (series_of batch.value) text) (is_among (texts_in (entries_of client batches)) text)
     (sym (list_any-append (bytes_eq text) (series_of batch.value) (texts_in (entries_of client batches))) ∙ there))
 
-longer : (keys more : List (List ℕ)) (text : List ℕ) → Contains keys text → Contains (keys ++ more) text
+pub longer : (keys more : List (List ℕ)) (text : List ℕ) → Contains keys text → Contains (keys ++ more) text
 longer keys more text at = among_contains (keys ++ more) text (list_any-append (bytes_eq text) keys more ∙ left_true (is_among keys text) (is_among more text) (contains_among keys text at))
 
 held_longer : (keys more : List (List ℕ)) (points : List Point) → AreHeld keys points → AreHeld (keys ++ more) points
@@ -79,7 +79,7 @@ all_pushed : (keys : List (List ℕ)) (batches : List (Snapshot (List Point))) (
 all_pushed keys [] one held now = (now, tt)
 all_pushed keys (batch ∷ batches) one held now = (held.0, all_pushed keys batches one held.1 now)
 
-made-last : (made : List Made) (one : Made) → entries_made (made ++ one ∷ []) ≡ entries_made made ++ one.entry ∷ []
+pub made-last : (made : List Made) (one : Made) → entries_made (made ++ one ∷ []) ≡ entries_made made ++ one.entry ∷ []
 made-last [] one = refl
 made-last (first ∷ made) one = ap (λ (es : List Entry). first.entry ∷ es) (made-last made one)
 
@@ -279,7 +279,7 @@ module _ {D R W : Type 0} (g : Ghosts D R W) (WasSound : ℕ → Type 0) (start 
     cached : (held : ℕ) → held ≡ length old.live.points → old.settings.cache_points < held + length points → PassesCache points held (entries_of client batches) (limits_of start first new)
     cached held is past = record {
       are_held =
-          let few = few_points client start.points batches in
+          let few = few_left start.points (entries_of client batches) in
           let now = ap (λ (s : State). length s.points) holds.state in
           omega (arith, few, now, is);
       passes = let same = ap (λ settings. settings.cache_points) kept.settings in omega (arith, past, same);

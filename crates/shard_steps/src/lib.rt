@@ -3,6 +3,7 @@
 #![tactic(auto)]
 
 mod deleting;
+mod facts;
 mod settings;
 mod shard;
 mod unheld;
@@ -10,6 +11,7 @@ mod view;
 mod writing;
 
 pub use deleting::{DeleteFault, delete};
+pub use facts::Facts;
 pub use settings::Settings;
 pub use shard::Shard;
 pub use view::{begin_view, end_view};

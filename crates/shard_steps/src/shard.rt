@@ -1,4 +1,4 @@
-use crate::Settings;
+use crate::{Facts, Settings};
 use live_points::LivePoints;
 use shard_state::Logs;
 use std::alloc::Global;
@@ -15,7 +15,7 @@ pub struct Shard<D> {
 }
 
 impl<D> Shard<D> {
-    ghost use Rattle.std.specs.Prelude.{◌≡◌};
+    ghost use Rattle.std.specs.Prelude.{◌≡◌, ◌≤◌, length};
 
     /// An engine over logs that were opened, with the points that their entries leave. No view is out. The seed is one that clients
     /// don't know: they choose the series.
@@ -64,5 +64,16 @@ impl<D> Shard<D> {
         ensures { result ≡ self.now.settings }
     {
         self.settings
+    }
+
+    /// How many points and series it holds. There are at most 10,000,000 series.
+    pub fn facts(&self) -> Facts
+        ensures few { result.series ≤ 10000000 }
+        ensures are { result ≡ record { cached = length self.now.live.points; series = length self.now.logs.series.keys } }
+    {
+        Facts {
+            cached: self.live.cells(),
+            series: u64::from(self.logs.series().len()),
+        }
     }
 }

@@ -1,0 +1,4 @@
+pub mod EntriesLemmas
+pub mod ReachingLemmas
+pub mod ToldLemmas
+pub mod TurnLemmas

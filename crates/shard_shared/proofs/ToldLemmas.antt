@@ -1,0 +1,221 @@
+-- What a call of an engine makes of what a client's store tells.
+use Rattle.std.proofs.Common.{◌≡◌, ◌∙◌, ℕ, ◌+◌, ◌<◌, ◌≤◌, Bool, true, false, List, [], ◌∷◌, ◌++◌, length, reverse, refl, sym, ap, subst, arith, length-append, All, Option, None, Some, IsTrue, ⊎_elim}
+use Rattle.std.specs.Str.{bytes_eq}
+use Rattle.std.proofs.lemmas.Bool.{false≢true}
+use Rattle.std.proofs.lemmas.List.{reverse-append}
+use Rattle.std.proofs.lemmas.List.Folds.{list_any-append}
+use Rattle.shard_disk.specs.Health.{Ages, Failed, Health}
+use Rattle.shard_disk.specs.declared.disk.Disk.{Ghosts}
+use Rattle.tsdb_types.specs.Moments.{IsMoment}
+use Rattle.tsdb_types.specs.declared.point.Point.{Point}
+use Rattle.point_model.specs.Acceptance.{IsAccepted, IsSound}
+use Rattle.point_model.specs.Cursors.{Gives, Shown}
+use Rattle.point_model.specs.declared.need.Need.{Need}
+use Rattle.point_model.specs.Histories.{State, state_after}
+use Rattle.point_model.specs.declared.entry.Entry.{Entry}
+use Rattle.history_turn.specs.Histories.{StartsWith, numbers_after}
+use Rattle.store_trait.specs.Calls.View.{Begins, Ends}
+use Rattle.store_trait.specs.Calls.Write.{Accepts, IsOpen, FitsSeries, PassesSeries, PassesCache, WriteHasCause}
+use Rattle.store_trait.specs.Told.{IsAlike, Keeps, Told, last_number}
+use Rattle.store_trait.specs.declared.fault.WriteFault.{WriteFault}
+use Rattle.store_trait.specs.declared.fault.WriteFault.TheVariants as fault
+use Rattle.shard_steps.specs.Calls.View.{Lends}
+use Rattle.shard_steps.specs.Calls.Write as steps
+use Rattle.shard_steps.specs.Series.{is_among}
+use Rattle.shard_steps.specs.Shards.{state_of}
+use Rattle.shard_steps.specs.declared.shard.Shard.{Shard}
+use Rattle.shard_calls.specs.Told.{limits_of}
+use Rattle.shard_calls.proofs.CountLemmas.{all_few, all_texts, are_known, are_new, contains_among, few_left, known_few, known_of, left_true, new_of, or_true, unheld_few}
+use Rattle.shard_calls.proofs.SeriesLemmas.{by_case, texts_in, written_from_among}
+use Rattle.shard_shared.specs.Entries.{entries_in, views_lent, without_view}
+use Rattle.shard_shared.specs.Reaching.{ComesTo, ComesFrom, entered_by}
+use Rattle.shard_shared.specs.Told.{is_steady_at, limits_at, number_at, state_at}
+use Rattle.shard_shared.specs.declared.engine.Entered.{Entered}
+use Rattle.shard_shared.specs.declared.engine.Lent.{Lent}
+use Rattle.shard_shared.specs.declared.engine.Lent.TheVariants.{View}
+use Rattle.shard_shared.proofs.EntriesLemmas.{entries_in-append, entries_in-length, views-without}
+
+-- what a store tells, by the parts of its pass
+abbrev pub told_at : {D : Type 0} → ℕ → ℕ → Option (Shard D) → List Entered → List ℕ → List Lent → Told
+told_at client series start seen own loans = record {
+  client = client;
+  start = state_at start;
+  tells = true;
+  is_alone = false;
+  limits = limits_at start;
+  history = entries_in seen;
+  own = reverse own;
+  series = series;
+  out = views_lent loans;
+}
+
+module _ {D : Type 0} (client : ℕ) (start : Option (Shard D)) where
+  -- What every call keeps.
+  pub keeps : (series count : ℕ) (seen entries : List Entered) (own now : List ℕ) (loans left : List Lent) → StartsWith entries seen → series ≤ count
+      → Keeps (told_at client series start seen own loans) (told_at client count start entries now left)
+  keeps series count seen entries own now loans left more few = record {
+    client = refl;
+    start = refl;
+    tells = refl;
+    is_alone = refl;
+    alone = λ alone owns. absurd (false≢true alone);
+    limits = refl;
+    history = record { since = entries_in more.0; begins = ap (λ (es : List Entered). entries_in es) more.1 ∙ entries_in-append seen more.0 };
+    series = few;
+  }
+
+module _ {D R W : Type 0} (g : Ghosts D R W) where
+  reached : (start : Option (Shard D)) (faults : ℕ) (entered : List Entered) (shard : Shard D) → ComesFrom g start faults entered shard
+      → state_of shard ≡ state_after (state_at start) (entries_in entered)
+  reached (Some s) faults entered shard was = was.state
+  reached None faults entered shard was = absurd was
+
+  -- the number of the last entry
+  pub counted : (start : Option (Shard D)) (faults : ℕ) (entered : List Entered) (shard : Shard D) → ComesFrom g start faults entered shard
+      → shard.logs.number ≡ number_at start + length entered
+  counted start faults entered shard was =
+      let now : shard.logs.number ≡ (state_at start).number + length (entries_in entered) = ap (λ (s : State). s.number) (reached start faults entered shard was) in
+      let same = entries_in-length entered in
+      now ∙ ap (λ (n : ℕ). number_at start + n) same
+
+  -- An entry more.
+  pub accepts : (start : Option (Shard D)) (faults client number series count : ℕ) (points : List Point) (seen entries : List Entered) (own : List ℕ) (loans : List Lent) (old new : Shard D)
+      → StartsWith entries seen → ComesFrom g start faults entries old → steps.Adds client points number old new
+      → Accepts points number (told_at client series start seen own loans)
+      (told_at client count start (entries ++ entered_by g client points new ∷ []) ((number_at start + length entries + 1) ∷ own) loans)
+  accepts start faults client number series count points seen entries own loans old new more was adds = record {
+    before = entries_in entries;
+    later = record { since = entries_in more.0; begins = ap (λ (es : List Entered). entries_in es) more.1 ∙ entries_in-append seen more.0 };
+    entry = entries_in-append entries (entered_by g client points new ∷ []);
+    accepted = λ tells. subst (λ (s : State). IsAccepted s.points points) (reached start faults entries old was) adds.accepted;
+    given = given ∙ sym long;
+    limit = adds.limit;
+    own = reverse-append ((number_at start + length entries + 1) ∷ []) own ∙ ap (λ (n : ℕ). reverse own ++ n ∷ []) (sym given);
+    out = refl;
+  }
+    where
+      given : number ≡ number_at start + length entries + 1
+      given =
+          let a = adds.given in
+          let b : new.logs.number ≡ old.logs.number + 1 = ap (λ (s : State). s.number) adds.state in
+          let c = counted start faults entries old was in
+          omega (arith, a, b, c)
+
+      long : (state_at start).number + length (entries_in (entries ++ entered_by g client points new ∷ [])) ≡ number_at start + length entries + 1
+      long =
+          let all = entries_in-length (entries ++ entered_by g client points new ∷ []) in
+          let sum = length-append entries (entered_by g client points new ∷ []) in
+          omega (arith, all, sum)
+
+  -- Views.
+  pub begins : (start : Option (Shard D)) (faults client series : ℕ) (need : Need) (shown : Shown) (seen entries : List Entered) (own : List ℕ) (loans : List Lent) (shard : Shard D)
+      → ComesFrom g start faults entries shard → Lends need shown shard
+      → Begins need shown 0 false (told_at client series start seen own loans) (told_at client series start entries own (View ∷ loans))
+  begins start faults client series need shown seen entries own loans shard was lends = record {
+    number = lends.number ∙ ap (λ (s : State). s.number) (reached start faults entries shard was);
+    gives = λ tells. subst (λ (s : State). Gives s.points need shown) (reached start faults entries shard was) lends.gives;
+    sound = λ tells. subst (λ (s : State). IsSound s.points) (reached start faults entries shard was) lends.sound;
+    timed = λ tells. subst (λ (s : State). All (λ point. IsMoment point.0.time) s.points) (reached start faults entries shard was) lends.timed;
+    own = refl;
+    out = refl;
+    told_is_whole = λ tells. refl;
+    unlimited_is_whole = λ none. refl;
+  }
+
+  -- A fault.
+  unsteady : (start : Option (Shard D)) (faults : ℕ) (entered : List Entered) (shard : Shard D) → ComesFrom g start faults entered shard
+      → (g.health shard.logs.disk).is_steady ≡ false → is_steady_at g start ≡ false
+  unsteady (Some s) faults entered shard was fails =
+      by_case (g.health s.logs.disk).is_steady
+      (λ is. absurd (false≢true (sym fails ∙ ap (λ (h : Health). h.is_steady) (was.health.ages.steady is) ∙ is)))
+      (λ isnt. isnt)
+  unsteady None faults entered shard was fails = absurd was
+
+  pub failed : (start : Option (Shard D)) (faults told : ℕ) (entered : List Entered) (shard : Shard D) (now : Health) → ComesFrom g start faults entered shard
+      → Failed (g.health shard.logs.disk) now → Failed (record { faults = told; is_steady = is_steady_at g start }) (record { faults = told + 1; is_steady = is_steady_at g start })
+  failed start faults told entered shard now was fails = record { rose = omega arith; unsteady = unsteady start faults entered shard was fails.unsteady }
+
+  pub ages : (start : Option (Shard D)) (faults told : ℕ) (entered : List Entered) (shard : Shard D) (now : Health) → ComesFrom g start faults entered shard
+      → Failed (g.health shard.logs.disk) now → Ages (record { faults = told; is_steady = is_steady_at g start }) (record { faults = told + 1; is_steady = is_steady_at g start })
+  ages start faults told entered shard now was fails = record {
+    later = omega arith;
+    steady = λ is. absurd (false≢true (sym (unsteady start faults entered shard was fails.unsteady) ∙ is));
+  }
+
+  -- Why a batch was refused.
+  module _ (start : Shard D) (faults client series : ℕ) (points : List Point) (entered : List Entered) (own : List ℕ) (loans : List Lent) (shard : Shard D)
+      (was : ComesTo g start faults entered shard) (few : length shard.logs.series.keys ≤ series) where
+    within : (text : List ℕ) → is_among (all_texts (limits_of (state_of start) start.logs.series.keys start) (entries_in entered)) text ≡ true → is_among shard.logs.series.keys text ≡ true
+    within text there = ⊎_elim
+        (λ one. ap (λ (l : List (List ℕ)). is_among l text) was.series.from_start ∙ list_any-append (bytes_eq text) start.logs.series.keys was.series.more
+        ∙ left_true (is_among start.logs.series.keys text) (is_among was.series.more text) one)
+        (λ more. contains_among shard.logs.series.keys text (was.series.written text (written_from_among (entries_in entered) text more)))
+        (or_true (is_among start.logs.series.keys text) (is_among (texts_in (entries_in entered)) text)
+        (sym (list_any-append (bytes_eq text) start.logs.series.keys (texts_in (entries_in entered))) ∙ there))
+
+    is_open : steps.IsOpen points shard → IsOpen points (told_at client series (Some start) entered own loans)
+    is_open o = record {
+      accepted = λ tells. subst (λ (s : State). IsAccepted s.points points) was.state o.accepted;
+      number = subst (λ (s : State). s.number < last_number) was.state o.number;
+    }
+
+    fits : steps.FitsSeries points shard → FitsSeries points (told_at client series (Some start) entered own loans) (limits_of (state_of start) start.logs.series.keys start)
+    fits f = record {
+      held = length (known_of (limits_of (state_of start) start.logs.series.keys start) (entries_in entered));
+      known = known_of (limits_of (state_of start) start.logs.series.keys start) (entries_in entered);
+      new = new_of (limits_of (state_of start) start.logs.series.keys start) (entries_in entered) points;
+      are_known = are_known (limits_of (state_of start) start.logs.series.keys start) (entries_in entered);
+      are_new = are_new (limits_of (state_of start) start.logs.series.keys start) (entries_in entered) points;
+      no_fewer = omega arith;
+      are_held =
+          let known = known_few (limits_of (state_of start) start.logs.series.keys start) (entries_in entered) points shard.logs.series.keys f.new f.are within in
+          omega (arith, known, few);
+      fits =
+          let all = all_few (limits_of (state_of start) start.logs.series.keys start) (entries_in entered) points shard.logs.series.keys f.new f.are within in
+          let fit = f.fits in
+          let same = ap (λ settings. settings.series) was.settings in
+          omega (arith, all, fit, same);
+    }
+
+    passes : (held : ℕ) → steps.PassesSeries points shard → held ≡ length shard.logs.series.keys
+        → PassesSeries points held series (entries_in entered) (limits_of (state_of start) start.logs.series.keys start)
+    passes held p is = record {
+      new = new_of (limits_of (state_of start) start.logs.series.keys start) (entries_in entered) points;
+      are_new = are_new (limits_of (state_of start) start.logs.series.keys start) (entries_in entered) points;
+      are_held = omega (arith, few, is);
+      passes =
+          let more = unheld_few (limits_of (state_of start) start.logs.series.keys start) (entries_in entered) points shard.logs.series.keys p.new p.are within in
+          let past = p.passes in
+          let same = ap (λ settings. settings.series) was.settings in
+          omega (arith, more, past, same, is);
+    }
+
+    cached : (held : ℕ) → held ≡ length shard.live.points → shard.settings.cache_points < held + length points
+        → PassesCache points held (entries_in entered) (limits_of (state_of start) start.logs.series.keys start)
+    cached held is past = record {
+      are_held =
+          let left = few_left start.live.points (entries_in entered) in
+          let now = ap (λ (s : State). length s.points) was.state in
+          omega (arith, left, now, is);
+      passes = let same = ap (λ settings. settings.cache_points) was.settings in omega (arith, past, same);
+    }
+
+    cause_of : (before after old new : Health) (why : WriteFault) → (why ≡ fault.Fault → Failed before after → Failed old new) → steps.HasCause points shard before after why
+        → WriteHasCause points (told_at client series (Some start) entered own loans) old new why
+    cause_of before after old new (fault.TypeConflict field held number) fails is =
+        (record { stored = shard.live.points; are_told = λ tells. ap (λ (s : State). s.points) was.state; in_conflict = is.0 }, is.1 ∙ ap (λ (s : State). s.number) was.state)
+    cause_of before after old new fault.HistoryFull fails is =
+        ((λ tells. subst (λ (s : State). IsAccepted s.points points) was.state is.0), sym (ap (λ (s : State). s.number) was.state) ∙ is.1)
+    cause_of before after old new (fault.SeriesFull held) fails is = (is_open is.0, passes held is.1 is.2)
+    cause_of before after old new (fault.CacheFull held) fails is = (is_open is.0, fits is.1, cached held is.2 is.3)
+    cause_of before after old new fault.Memory fails is = tt
+    cause_of before after old new fault.Fault fails is =
+        (fails refl is.0, is_open is.1, fits is.2, (let same = ap (λ settings. settings.cache_points) was.settings in let room = is.3 in omega (arith, same, room)))
+
+  pub cause : (start : Option (Shard D)) (faults client series : ℕ) (points : List Point) (entered : List Entered) (own : List ℕ) (loans : List Lent) (shard : Shard D)
+      → ComesFrom g start faults entered shard → length shard.logs.series.keys ≤ series
+      → (before after old new : Health) (why : WriteFault) → (why ≡ fault.Fault → Failed before after → Failed old new) → steps.HasCause points shard before after why
+      → WriteHasCause points (told_at client series start entered own loans) old new why
+  cause (Some s) faults client series points entered own loans shard was few before after old new why fails is =
+      cause_of s faults client series points entered own loans shard was few before after old new why fails is
+  cause None faults client series points entered own loans shard was few before after old new why fails is = absurd was

@@ -1,0 +1,135 @@
+-- What a pass knows once it has given the turn back.
+use Rattle.std.proofs.Common.{◌≡◌, ◌∙◌, ℕ, List, ◌++◌, ◌∷◌, [], append-nil, ap, subst, sym, arith, reverse, Option, Some, refl, true, false, Result, Ok, Err}
+use Rattle.std.specs.Prelude.{IsErrOf}
+use Rattle.std.proofs.lemmas.Bool.{false≢true}
+use Rattle.shard_disk.specs.Health.{Ages, Health}
+use Rattle.shard_disk.specs.declared.disk.Disk.{Ghosts}
+use Rattle.point_model.specs.Cursors.{Shown}
+use Rattle.point_model.specs.declared.need.Need.{Need}
+use Rattle.history_turn.specs.Histories.{StartsWith}
+use Rattle.history_turn.specs.Passes.{Known, viewing}
+use Rattle.history_turn.specs.Views.{adding, holding, resting}
+use Rattle.history_turn.proofs.HistoriesLemmas.{starts_longer, starts_trans}
+use Rattle.store_trait.specs.Calls.View.{Begins, TakesBack}
+use Rattle.store_trait.specs.Told.{Keeps}
+use Rattle.store_trait.specs.declared.fault.WriteFault.{WriteFault}
+use Rattle.store_trait.specs.declared.fault.WriteFault.TheVariants as fault
+use Rattle.shard_steps.specs.declared.facts.Facts.{Facts}
+use Rattle.shard_steps.specs.declared.shard.Shard.{Shard}
+use Rattle.shard_shared.specs.Reaching.{ComesFrom}
+use Rattle.shard_shared.specs.Entries.{entries_in, faults_lent, views_lent}
+use Rattle.shard_shared.specs.Told.{EngineView, health_by, is_fault, is_steady_at, limits_at, number_at, state_at, told_over}
+use Rattle.shard_shared.specs.declared.engine.Engine.{Engine}
+use Rattle.shard_shared.specs.declared.engine.Entered.{Entered}
+use Rattle.shard_shared.specs.declared.engine.Lent.{Lent}
+use Rattle.shard_shared.proofs.EntriesLemmas.{entries_in-append}
+
+-- what clauses see of a pass
+abbrev pub Pass : Type 0 → Type 0
+Pass D = Known (Option (Shard D)) Entered Lent Facts
+
+-- it took the value, and gave it back with these entries and loans
+abbrev pub after : {D : Type 0} → EngineView D → List Entered → ℕ → List Lent → List Entered → ℕ → List Lent → EngineView D
+after view entries found loans_found more faults loans = resting (adding (number_at view.start) (holding view entries found loans_found) more) faults loans
+
+pub gave : {D : Type 0} (old held new : Pass D) (entries : List Entered) (found : ℕ) (loans_found : List Lent) (facts : Facts) (more : List Entered) (faults : ℕ) (loans : List Lent → List Lent)
+    → held ≡ record { turn = old.turn; view = holding old.view entries found loans_found; before = Some facts }
+    → new ≡ viewing held (resting (adding (number_at held.view.start) held.view more) faults (loans held.view.loans))
+    → new.view ≡ after old.view entries found loans_found more faults (loans old.view.loans)
+gave {D} old held new entries found loans_found facts more faults loans taken given =
+    ap (λ (p : Pass D). p.view) given ∙ ap (λ (p : Pass D). resting (adding (number_at p.view.start) p.view more) faults (loans p.view.loans)) taken
+
+-- the value that is lent is the one that was taken
+pub lent_reaches : {D R W : Type 0} (g : Ghosts D R W) (start : Option (Shard D)) (entries : List Entered) (taken lent : Engine D) → lent ≡ taken
+    → ComesFrom g start taken.faults entries taken.shard → ComesFrom g start lent.faults entries lent.shard
+lent_reaches {D} g start entries taken lent is was = subst (λ (e : Engine D). ComesFrom g start e.faults entries e.shard) (sym is) was
+
+-- no entry more
+pub none_more : {D R W : Type 0} (g : Ghosts D R W) (start : Option (Shard D)) (faults : ℕ) (entries : List Entered) (shard : Shard D)
+    → ComesFrom g start faults entries shard → ComesFrom g start faults (entries ++ []) shard
+none_more g start faults entries shard was = subst (λ (es : List Entered). ComesFrom g start faults es shard) (sym (append-nil entries)) was
+
+pub ages_same : (h : Health) → Ages h h
+ages_same h = record { later = omega arith; steady = λ is. refl }
+
+-- a view that met no fault
+pub takes_back : (old new : Health) → new ≡ old → TakesBack (record { faults = 0; is_steady = true }) old new
+takes_back old new same = record {
+  grows = let is = ap (λ (h : Health). h.faults) same in omega (arith, is);
+  later = λ rose. absurd (omega (arith, rose));
+  quiet = λ none. same;
+}
+
+-- While a pass waits for a view it may see more entries, and has what it had.
+pub record Waits {D : Type 0} (old new : EngineView D) : Type 0 where
+  pub start : new.start ≡ old.start
+  pub own : new.own ≡ old.own
+  pub loans : new.loans ≡ old.loans
+  pub seen : StartsWith new.seen old.seen
+
+module _ {D : Type 0} (first was : EngineView D) (waits : Waits first was) where
+  pub seen_more : (entries : List Entered) → StartsWith entries was.seen → StartsWith (entries ++ []) first.seen
+  seen_more entries more = starts_longer entries first.seen [] (starts_trans entries was.seen first.seen more waits.seen)
+
+  pub waits_more : (entries : List Entered) (found : ℕ) (loans_found : List Lent) (faults : ℕ) → StartsWith entries was.seen
+      → Waits first (after was entries found loans_found [] faults was.loans)
+  waits_more entries found loans_found faults more = record { start = waits.start; own = waits.own; loans = waits.loans; seen = seen_more entries more }
+
+-- what a store tells by the view of its pass
+pub told_keeps : {D : Type 0} (old new : EngineView D) (client next series count : ℕ) → next ≡ client → count ≡ series → new.start ≡ old.start → StartsWith new.seen old.seen
+    → Keeps (told_over client series old) (told_over next count new)
+told_keeps {D} old new client next series count same few start more = record {
+  client = same;
+  start = ap (λ (s : Option (Shard D)). state_at s) start;
+  tells = refl;
+  is_alone = refl;
+  alone = λ alone owns. absurd (false≢true alone);
+  limits = ap (λ (s : Option (Shard D)). limits_at s) start;
+  history = record { since = entries_in more.0; begins = ap (λ (es : List Entered). entries_in es) more.1 ∙ entries_in-append old.seen more.0 };
+  series = omega (arith, few);
+}
+
+pub health_same : {D R W : Type 0} (g : Ghosts D R W) (old new : EngineView D) → new.start ≡ old.start → new.loans ≡ old.loans → health_by g new ≡ health_by g old
+health_same {D} g old new start loans =
+    ap (λ (l : List Lent). (let h : Health = record { faults = faults_lent l; is_steady = is_steady_at g new.start } in h)) loans
+    ∙ ap (λ (s : Option (Shard D)). (let h : Health = record { faults = faults_lent old.loans; is_steady = is_steady_at g s } in h)) start
+
+pub ages_by : (old new : Health) → new ≡ old → Ages old new
+ages_by old new same = subst (λ (h : Health). Ages old h) (sym same) (ages_same old)
+
+pub begins_waited : {D : Type 0} (first was now : EngineView D) (client next series count : ℕ) (need : Need) (shown : Shown) → Waits first was
+    → Begins need shown 0 false (told_over next count was) (told_over next count now) → Begins need shown 0 false (told_over client series first) (told_over next count now)
+begins_waited first was now client next series count need shown waits begins = record {
+  number = begins.number;
+  gives = begins.gives;
+  sound = begins.sound;
+  timed = begins.timed;
+  own = begins.own ∙ ap (λ (ns : List ℕ). reverse ns) waits.own;
+  out = begins.out ∙ ap (λ (l : List Lent). 0 ∷ views_lent l) waits.loans;
+  told_is_whole = begins.told_is_whole;
+  unlimited_is_whole = begins.unlimited_is_whole;
+}
+
+-- Faults.
+
+pub fault_is : (why : WriteFault) → is_fault why ≡ true → why ≡ fault.Fault
+fault_is (fault.TypeConflict field held number) is = absurd (false≢true is)
+fault_is fault.HistoryFull is = absurd (false≢true is)
+fault_is (fault.SeriesFull held) is = absurd (false≢true is)
+fault_is (fault.CacheFull held) is = absurd (false≢true is)
+fault_is fault.Memory is = absurd (false≢true is)
+fault_is fault.Fault is = refl
+
+pub fault_isnt : (why : WriteFault) → is_fault why ≡ false → why ≡ fault.Fault → ⊥
+fault_isnt why other is = false≢true (sym other ∙ ap (λ (w : WriteFault). is_fault w) is)
+
+-- the fault of a refusal
+abbrev refusal : Result ℕ WriteFault → WriteFault → WriteFault
+refusal (Ok number) other = other
+refusal (Err why) other = why
+
+pub quiet_refusal : (why : WriteFault) → is_fault why ≡ false → IsErrOf {T = ℕ} (Err why) fault.Fault → ⊥
+quiet_refusal why other is = fault_isnt why other (ap (λ (r : Result ℕ WriteFault). refusal r why) is)
+
+pub quiet_answer : (number : ℕ) → IsErrOf {T = ℕ} (Ok number) fault.Fault → ⊥
+quiet_answer number is = false≢true (ap (λ (r : Result ℕ WriteFault). is_fault (refusal r fault.Memory)) is)

@@ -1,0 +1,55 @@
+-- What has an engine come to since its history began?
+use Rattle.std.specs.Prelude.{◌≡◌, ℕ, ◌+◌, ◌≤◌, min, List, [], ◌++◌, Any, Contains, Option, Some, None, IsTrue}
+use Rattle.shard_disk.specs.Health.{Health, Ages, last_count}
+use Rattle.shard_disk.specs.declared.disk.Disk.{Ghosts}
+use Rattle.tsdb_types.specs.declared.point.Point.{Point}
+use Rattle.point_model.specs.Histories.{State, state_after}
+use Rattle.point_model.specs.declared.entry.Entry.{Entry}
+use Rattle.point_model.specs.declared.entry.Entry.TheVariants.{Write}
+use Rattle.store_trait.specs.Calls.Write.{WritesSeries}
+use Rattle.shard_state.specs.History.{Made}
+use Rattle.shard_steps.specs.Shards.{IsReady, Runs, state_of}
+use Rattle.shard_steps.specs.declared.shard.Shard.{Shard}
+use Rattle.shard_calls.specs.Holds.{HasRun}
+use Rattle.shard_shared.specs.Entries.{entries_in, made_by}
+use Rattle.shard_shared.specs.declared.engine.Entered.{Entered}
+
+-- The health of a disk that so many calls failed at since it was this: its count rose with each, up to its last value, and where
+-- none failed it is as it was.
+pub record HasFailed (start : Health) (faults : ℕ) (now : Health) : Type 0 where
+  pub ages : Ages start now
+  pub counted : min (start.faults + faults) last_count ≤ now.faults
+  pub quiet : faults ≡ 0 → now ≡ start
+
+-- The series of the start are held, and those of each entry.
+pub record HoldsSeries (first : List (List ℕ)) (entries : List Entry) (keys : List (List ℕ)) : Type 0 where
+  pub more : List (List ℕ)
+  pub from_start : keys ≡ first ++ more
+  pub written : (text : List ℕ) → Any (WritesSeries text) entries → Contains keys text
+
+-- the entry of a batch that was logged, on this disk
+abbrev pub entered_by : {D R W : Type 0} → Ghosts D R W → ℕ → List Point → Shard D → Entered
+entered_by g client points shard = record { entry = Write client points; moment = (g.crashes shard.logs.disk).moment }
+
+-- The engine ran from the start to exactly these entries, each logged by its moment: every crash since leaves a prefix of them,
+-- with at most one entry more, which was refused.
+pub record RunsTo {D R W : Type 0} (g : Ghosts D R W) (start : State) (since : ℕ) (made : List Made) (shard : Shard D) : Type 0 where
+  pub refused : List Entry
+  pub doubt : Option Entry
+  pub runs : Runs g shard start since made refused doubt
+
+-- An engine came from its start to these entries: its points and number are those behind them, its limits are as they were, no
+-- reader was handed out, and so many of its answers told a fault. Where the start was sound since a moment, it ran since then.
+pub record ComesTo {D R W : Type 0} (g : Ghosts D R W) (start : Shard D) (faults : ℕ) (entered : List Entered) (shard : Shard D) : Type 0 where
+  pub ready : IsReady g shard
+  pub state : state_of shard ≡ state_after (state_of start) (entries_in entered)
+  pub settings : shard.settings ≡ start.settings
+  pub series : HoldsSeries start.logs.series.keys (entries_in entered) shard.logs.series.keys
+  pub handed_out : g.handed_out shard.logs.disk ≡ g.handed_out start.logs.disk
+  pub health : HasFailed (g.health start.logs.disk) faults (g.health shard.logs.disk)
+  pub ran : IsTrue g.tells → (since : ℕ) → HasRun g (state_of start) since [] start → RunsTo g (state_of start) since (made_by entered) shard
+
+-- the same where there is a start; from nowhere it came to nothing
+abbrev pub ComesFrom : {D R W : Type 0} → Ghosts D R W → Option (Shard D) → ℕ → List Entered → Shard D → Type 0
+ComesFrom g (Some start) faults entered shard = ComesTo g start faults entered shard
+ComesFrom g None faults entered shard = ⊥

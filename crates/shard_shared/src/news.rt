@@ -1,0 +1,53 @@
+// What a client did while it had the turn, for the proof alone.
+ghost use Rattle.std.specs.Prelude.{◌∷◌, Some, None};
+ghost use Rattle.point_model.specs.declared.entry.Entry.TheVariants.{Write};
+ghost use Rattle.shard_shared.specs.declared.engine.Lent.TheVariants.{View, Fault};
+ghost use Rattle.shard_shared.specs.Entries.{without_view};
+
+use crate::Engine;
+use history_turn::News;
+use shard_calls::EngineDisk;
+use tsdb_types::Batch;
+
+/// A batch was accepted from a client.
+#[derive(Drop)]
+pub(crate) struct Wrote<'a> {
+    pub(crate) client: u32,
+    pub(crate) batch: &'a Batch,
+}
+
+impl<'a, D: EngineDisk> News<Engine<D>> for Wrote<'a> {
+    ghost entry = { λ news x. Some (record { entry = Write news.client news.batch.now; moment = (D.Disk.crashes x.shard.logs.disk).moment }) };
+
+    ghost loans = { λ _ _ loans. loans };
+}
+
+/// A fault was told.
+#[derive(Drop)]
+pub(crate) struct Failed;
+
+impl<D: EngineDisk> News<Engine<D>> for Failed {
+    ghost entry = { λ _ _. None };
+
+    ghost loans = { λ _ _ loans. Fault ∷ loans };
+}
+
+/// A view was lent.
+#[derive(Drop)]
+pub(crate) struct Began;
+
+impl<D: EngineDisk> News<Engine<D>> for Began {
+    ghost entry = { λ _ _. None };
+
+    ghost loans = { λ _ _ loans. View ∷ loans };
+}
+
+/// A view came back.
+#[derive(Drop)]
+pub(crate) struct Ended;
+
+impl<D: EngineDisk> News<Engine<D>> for Ended {
+    ghost entry = { λ _ _. None };
+
+    ghost loans = { λ _ _ loans. without_view loans };
+}
