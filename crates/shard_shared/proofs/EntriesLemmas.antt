@@ -1,5 +1,5 @@
 -- Entries behind one another, and what a client has of an engine.
-use Rattle.std.proofs.Common.{◌≡◌, ◌∙◌, ℕ, zero, suc, ◌+◌, ◌<◌, List, [], ◌∷◌, ◌++◌, length, replicate, refl, sym, ap, arith, Contains}
+use Rattle.std.proofs.Common.{◌≡◌, ◌∙◌, ℕ, zero, suc, ◌+◌, ◌<◌, List, [], ◌∷◌, ◌++◌, replicate, refl, sym, ap, arith, Contains}
 use Rattle.history_turn.specs.Owned.{IsAmong, SameChange, weigh}
 use Rattle.point_model.specs.declared.entry.Entry.{Entry}
 use Rattle.store_trait.specs.Calls.View.{without}
@@ -18,10 +18,6 @@ made_by-append (one ∷ first) second = let m : Made = record { entry = one.entr
 pub entries_in-append : (first second : List Entered) → entries_in (first ++ second) ≡ entries_in first ++ entries_in second
 entries_in-append [] second = refl
 entries_in-append (one ∷ first) second = ap (λ (es : List Entry). one.entry ∷ es) (entries_in-append first second)
-
-pub entries_in-length : (entered : List Entered) → length (entries_in entered) ≡ length entered
-entries_in-length [] = refl
-entries_in-length (one ∷ entered) = ap suc (entries_in-length entered)
 
 -- Loans.
 
@@ -66,10 +62,6 @@ same_lent : (weight : Lent → ℕ) (views faults left count : ℕ) → left ≡
 same_lent weight views faults left count same none = ap (λ (n : ℕ). weigh weight (lent_by n count)) same ∙ ap (λ (n : ℕ). weigh weight (lent_by views n)) none
 
 -- what each answer does to the loans of the engine and of the client
-pub change_kept : (views faults left count : ℕ) (mine : List Lent) → left ≡ views → count ≡ faults → SameChange (lent_by views faults) (lent_by left count) mine mine
-change_kept views faults left count mine same none =
-    record { same = λ weight. let all = same_lent weight views faults left count same none in omega (arith, all) }
-
 pub change_fault : (views faults left count : ℕ) (mine : List Lent) → left ≡ views → count ≡ faults + 1 → SameChange (lent_by views faults) (lent_by left count) mine (Fault ∷ mine)
 change_fault views faults left count mine same one =
     record { same = λ weight. let all = same_lent weight views (faults + 1) left count same one in let more = weigh-fault weight views faults in omega (arith, all, more) }

@@ -1,6 +1,5 @@
 -- What a call of an engine makes of the entries that it came to.
-use Rattle.std.proofs.Common.{◌≡◌, ◌∙◌, ℕ, ◌+◌, ◌≤◌, min, List, [], ◌∷◌, ◌++◌, length, refl, sym, ap, subst, arith, append-nil, append_assoc, Any, Contains, ⊎_elim, IsTrue, Option, None, Some}
-use Rattle.std.proofs.lemmas.Bool.{false≢true}
+use Rattle.std.proofs.Common.{◌≡◌, ◌∙◌, ℕ, ◌+◌, ◌≤◌, min, List, [], ◌∷◌, ◌++◌, sym, ap, subst, arith, append-nil, append_assoc, Contains, ⊎_elim, IsTrue, Option, None, Some}
 use Rattle.std.proofs.lemmas.List.Folds.{list_any-append}
 use Rattle.std.specs.Str.{bytes_eq}
 use Rattle.shard_disk.specs.Health.{Ages, Failed, Health, last_count}
@@ -10,14 +9,13 @@ use Rattle.point_model.specs.Histories.{State, state_after}
 use Rattle.point_model.specs.declared.entry.Entry.{Entry}
 use Rattle.point_model.specs.declared.entry.Entry.TheVariants.{Write, Delete}
 use Rattle.point_model.proofs.HistoryLemmas.{state_after-append}
-use Rattle.store_trait.specs.Calls.Write.{WritesSeries}
 use Rattle.shard_state.specs.History.{Made}
 use Rattle.shard_state.specs.Meaning.{AreHeld}
 use Rattle.shard_steps.specs.Calls.Write as steps
 use Rattle.shard_steps.specs.Series.{is_among, series_of}
 use Rattle.shard_steps.specs.Shards.{IsReady, Runs, state_of}
 use Rattle.shard_steps.specs.declared.shard.Shard.{Shard}
-use Rattle.shard_calls.proofs.CountLemmas.{among_contains, contains_among, or_true}
+use Rattle.shard_calls.proofs.CountLemmas.{among_contains, or_true}
 use Rattle.shard_calls.proofs.SeriesLemmas.{among_from_written, texts_in, written_from_among}
 use Rattle.shard_calls.proofs.StoreLemmas.{held_points, longer}
 use Rattle.shard_shared.specs.Entries.{entries_in, made_by}
@@ -136,7 +134,3 @@ module _ {D R W : Type 0} (g : Ghosts D R W) where
       → ((s : Shard D) → ComesTo g s faults entered old → ComesTo g s count more new) → ComesFrom g start faults entered old → ComesFrom g start count more new
   from_any (Some s) faults count entered more old new goes was = goes s was
   from_any None faults count entered more old new goes was = absurd was
-
-  pub ready_from : (start : Option (Shard D)) (faults : ℕ) (entered : List Entered) (shard : Shard D) → ComesFrom g start faults entered shard → IsReady g shard
-  ready_from (Some s) faults entered shard was = was.ready
-  ready_from None faults entered shard was = absurd was

@@ -1,10 +1,9 @@
 -- What a call of an engine makes of what a client's store tells.
-use Rattle.std.proofs.Common.{◌≡◌, ◌∙◌, ℕ, ◌+◌, ◌<◌, ◌≤◌, Bool, true, false, List, [], ◌∷◌, ◌++◌, length, reverse, refl, sym, ap, subst, arith, length-append, All, Option, None, Some, IsTrue, ⊎_elim}
+use Rattle.std.proofs.Common.{◌≡◌, ◌∙◌, ℕ, ◌+◌, ◌<◌, ◌≤◌, true, false, List, ◌∷◌, length, reverse, refl, sym, ap, subst, arith, All, Option, None, Some, ⊎_elim}
 use Rattle.std.specs.Str.{bytes_eq}
 use Rattle.std.proofs.lemmas.Bool.{false≢true}
-use Rattle.std.proofs.lemmas.List.{reverse-append}
 use Rattle.std.proofs.lemmas.List.Folds.{list_any-append}
-use Rattle.shard_disk.specs.Health.{Ages, Failed, Health}
+use Rattle.shard_disk.specs.Health.{Failed, Health}
 use Rattle.shard_disk.specs.declared.disk.Disk.{Ghosts}
 use Rattle.tsdb_types.specs.Moments.{IsMoment}
 use Rattle.tsdb_types.specs.declared.point.Point.{Point}
@@ -12,11 +11,10 @@ use Rattle.point_model.specs.Acceptance.{IsAccepted, IsSound}
 use Rattle.point_model.specs.Cursors.{Gives, Shown}
 use Rattle.point_model.specs.declared.need.Need.{Need}
 use Rattle.point_model.specs.Histories.{State, state_after}
-use Rattle.point_model.specs.declared.entry.Entry.{Entry}
-use Rattle.history_turn.specs.Histories.{StartsWith, numbers_after}
-use Rattle.store_trait.specs.Calls.View.{Begins, Ends}
-use Rattle.store_trait.specs.Calls.Write.{Accepts, IsOpen, FitsSeries, PassesSeries, PassesCache, WriteHasCause}
-use Rattle.store_trait.specs.Told.{IsAlike, Keeps, Told, last_number}
+use Rattle.history_turn.specs.Histories.{StartsWith}
+use Rattle.store_trait.specs.Calls.View.{Begins}
+use Rattle.store_trait.specs.Calls.Write.{IsOpen, FitsSeries, PassesSeries, PassesCache, WriteHasCause}
+use Rattle.store_trait.specs.Told.{Keeps, Told, last_number}
 use Rattle.store_trait.specs.declared.fault.WriteFault.{WriteFault}
 use Rattle.store_trait.specs.declared.fault.WriteFault.TheVariants as fault
 use Rattle.shard_steps.specs.Calls.View.{Lends}
@@ -27,13 +25,13 @@ use Rattle.shard_steps.specs.declared.shard.Shard.{Shard}
 use Rattle.shard_calls.specs.Told.{limits_of}
 use Rattle.shard_calls.proofs.CountLemmas.{all_few, all_texts, are_known, are_new, contains_among, few_left, known_few, known_of, left_true, new_of, or_true, unheld_few}
 use Rattle.shard_calls.proofs.SeriesLemmas.{by_case, texts_in, written_from_among}
-use Rattle.shard_shared.specs.Entries.{entries_in, views_lent, without_view}
-use Rattle.shard_shared.specs.Reaching.{ComesTo, ComesFrom, entered_by}
-use Rattle.shard_shared.specs.Told.{is_steady_at, limits_at, number_at, state_at}
+use Rattle.shard_shared.specs.Entries.{entries_in, views_lent}
+use Rattle.shard_shared.specs.Reaching.{ComesTo, ComesFrom}
+use Rattle.shard_shared.specs.Told.{is_steady_at, limits_at, state_at}
 use Rattle.shard_shared.specs.declared.engine.Entered.{Entered}
 use Rattle.shard_shared.specs.declared.engine.Lent.{Lent}
 use Rattle.shard_shared.specs.declared.engine.Lent.TheVariants.{View}
-use Rattle.shard_shared.proofs.EntriesLemmas.{entries_in-append, entries_in-length, views-without}
+use Rattle.shard_shared.proofs.EntriesLemmas.{entries_in-append}
 
 -- what a store tells, by the parts of its pass
 abbrev pub told_at : {D : Type 0} → ℕ → ℕ → Option (Shard D) → List Entered → List ℕ → List Lent → Told
@@ -70,43 +68,6 @@ module _ {D R W : Type 0} (g : Ghosts D R W) where
   reached (Some s) faults entered shard was = was.state
   reached None faults entered shard was = absurd was
 
-  -- the number of the last entry
-  pub counted : (start : Option (Shard D)) (faults : ℕ) (entered : List Entered) (shard : Shard D) → ComesFrom g start faults entered shard
-      → shard.logs.number ≡ number_at start + length entered
-  counted start faults entered shard was =
-      let now : shard.logs.number ≡ (state_at start).number + length (entries_in entered) = ap (λ (s : State). s.number) (reached start faults entered shard was) in
-      let same = entries_in-length entered in
-      now ∙ ap (λ (n : ℕ). number_at start + n) same
-
-  -- An entry more.
-  pub accepts : (start : Option (Shard D)) (faults client number series count : ℕ) (points : List Point) (seen entries : List Entered) (own : List ℕ) (loans : List Lent) (old new : Shard D)
-      → StartsWith entries seen → ComesFrom g start faults entries old → steps.Adds client points number old new
-      → Accepts points number (told_at client series start seen own loans)
-      (told_at client count start (entries ++ entered_by g client points new ∷ []) ((number_at start + length entries + 1) ∷ own) loans)
-  accepts start faults client number series count points seen entries own loans old new more was adds = record {
-    before = entries_in entries;
-    later = record { since = entries_in more.0; begins = ap (λ (es : List Entered). entries_in es) more.1 ∙ entries_in-append seen more.0 };
-    entry = entries_in-append entries (entered_by g client points new ∷ []);
-    accepted = λ tells. subst (λ (s : State). IsAccepted s.points points) (reached start faults entries old was) adds.accepted;
-    given = given ∙ sym long;
-    limit = adds.limit;
-    own = reverse-append ((number_at start + length entries + 1) ∷ []) own ∙ ap (λ (n : ℕ). reverse own ++ n ∷ []) (sym given);
-    out = refl;
-  }
-    where
-      given : number ≡ number_at start + length entries + 1
-      given =
-          let a = adds.given in
-          let b : new.logs.number ≡ old.logs.number + 1 = ap (λ (s : State). s.number) adds.state in
-          let c = counted start faults entries old was in
-          omega (arith, a, b, c)
-
-      long : (state_at start).number + length (entries_in (entries ++ entered_by g client points new ∷ [])) ≡ number_at start + length entries + 1
-      long =
-          let all = entries_in-length (entries ++ entered_by g client points new ∷ []) in
-          let sum = length-append entries (entered_by g client points new ∷ []) in
-          omega (arith, all, sum)
-
   -- Views.
   pub begins : (start : Option (Shard D)) (faults client series : ℕ) (need : Need) (shown : Shown) (seen entries : List Entered) (own : List ℕ) (loans : List Lent) (shard : Shard D)
       → ComesFrom g start faults entries shard → Lends need shown shard
@@ -134,13 +95,6 @@ module _ {D R W : Type 0} (g : Ghosts D R W) where
   pub failed : (start : Option (Shard D)) (faults told : ℕ) (entered : List Entered) (shard : Shard D) (now : Health) → ComesFrom g start faults entered shard
       → Failed (g.health shard.logs.disk) now → Failed (record { faults = told; is_steady = is_steady_at g start }) (record { faults = told + 1; is_steady = is_steady_at g start })
   failed start faults told entered shard now was fails = record { rose = omega arith; unsteady = unsteady start faults entered shard was fails.unsteady }
-
-  pub ages : (start : Option (Shard D)) (faults told : ℕ) (entered : List Entered) (shard : Shard D) (now : Health) → ComesFrom g start faults entered shard
-      → Failed (g.health shard.logs.disk) now → Ages (record { faults = told; is_steady = is_steady_at g start }) (record { faults = told + 1; is_steady = is_steady_at g start })
-  ages start faults told entered shard now was fails = record {
-    later = omega arith;
-    steady = λ is. absurd (false≢true (sym (unsteady start faults entered shard was fails.unsteady) ∙ is));
-  }
 
   -- Why a batch was refused.
   module _ (start : Shard D) (faults client series : ℕ) (points : List Point) (entered : List Entered) (own : List ℕ) (loans : List Lent) (shard : Shard D)

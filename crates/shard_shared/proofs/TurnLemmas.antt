@@ -2,7 +2,7 @@
 use Rattle.std.proofs.Common.{◌≡◌, ◌∙◌, ℕ, List, ◌++◌, ◌∷◌, [], append-nil, ap, subst, sym, arith, reverse, Option, Some, refl, true, false, Result, Ok, Err}
 use Rattle.std.specs.Prelude.{IsErrOf}
 use Rattle.std.proofs.lemmas.Bool.{false≢true}
-use Rattle.shard_disk.specs.Health.{Ages, Health}
+use Rattle.shard_disk.specs.Health.{Health}
 use Rattle.shard_disk.specs.declared.disk.Disk.{Ghosts}
 use Rattle.point_model.specs.Cursors.{Shown}
 use Rattle.point_model.specs.declared.need.Need.{Need}
@@ -17,8 +17,8 @@ use Rattle.store_trait.specs.declared.fault.WriteFault.TheVariants as fault
 use Rattle.shard_steps.specs.declared.facts.Facts.{Facts}
 use Rattle.shard_steps.specs.declared.shard.Shard.{Shard}
 use Rattle.shard_shared.specs.Reaching.{ComesFrom}
-use Rattle.shard_shared.specs.Entries.{entries_in, faults_lent, views_lent}
-use Rattle.shard_shared.specs.Told.{EngineView, health_by, is_fault, is_steady_at, limits_at, number_at, state_at, told_over}
+use Rattle.shard_shared.specs.Entries.{entries_in, views_lent}
+use Rattle.shard_shared.specs.Told.{EngineView, is_fault, limits_at, number_at, state_at, told_over}
 use Rattle.shard_shared.specs.declared.engine.Engine.{Engine}
 use Rattle.shard_shared.specs.declared.engine.Entered.{Entered}
 use Rattle.shard_shared.specs.declared.engine.Lent.{Lent}
@@ -48,9 +48,6 @@ lent_reaches {D} g start entries taken lent is was = subst (λ (e : Engine D). C
 pub none_more : {D R W : Type 0} (g : Ghosts D R W) (start : Option (Shard D)) (faults : ℕ) (entries : List Entered) (shard : Shard D)
     → ComesFrom g start faults entries shard → ComesFrom g start faults (entries ++ []) shard
 none_more g start faults entries shard was = subst (λ (es : List Entered). ComesFrom g start faults es shard) (sym (append-nil entries)) was
-
-pub ages_same : (h : Health) → Ages h h
-ages_same h = record { later = omega arith; steady = λ is. refl }
 
 -- a view that met no fault
 pub takes_back : (old new : Health) → new ≡ old → TakesBack (record { faults = 0; is_steady = true }) old new
@@ -88,14 +85,6 @@ told_keeps {D} old new client next series count same few start more = record {
   history = record { since = entries_in more.0; begins = ap (λ (es : List Entered). entries_in es) more.1 ∙ entries_in-append old.seen more.0 };
   series = omega (arith, few);
 }
-
-pub health_same : {D R W : Type 0} (g : Ghosts D R W) (old new : EngineView D) → new.start ≡ old.start → new.loans ≡ old.loans → health_by g new ≡ health_by g old
-health_same {D} g old new start loans =
-    ap (λ (l : List Lent). (let h : Health = record { faults = faults_lent l; is_steady = is_steady_at g new.start } in h)) loans
-    ∙ ap (λ (s : Option (Shard D)). (let h : Health = record { faults = faults_lent old.loans; is_steady = is_steady_at g s } in h)) start
-
-pub ages_by : (old new : Health) → new ≡ old → Ages old new
-ages_by old new same = subst (λ (h : Health). Ages old h) (sym same) (ages_same old)
 
 pub begins_waited : {D : Type 0} (first was now : EngineView D) (client next series count : ℕ) (need : Need) (shown : Shown) → Waits first was
     → Begins need shown 0 false (told_over next count was) (told_over next count now) → Begins need shown 0 false (told_over client series first) (told_over next count now)

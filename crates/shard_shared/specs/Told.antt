@@ -1,5 +1,5 @@
 -- What does the store of one client of several tell?
-use Rattle.std.specs.Prelude.{ℕ, Bool, true, false, List, reverse, Option, Some, None}
+use Rattle.std.specs.Prelude.{ℕ, Bool, true, false, reverse, Option, Some, None}
 use Rattle.shard_disk.specs.Health.{Health}
 use Rattle.shard_disk.specs.declared.disk.Disk.{Ghosts}
 use Rattle.history_turn.specs.declared.view.PassView.{PassView}

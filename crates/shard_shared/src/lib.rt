@@ -9,4 +9,3 @@ mod shared;
 pub use engine::{Engine, Entered, Lent};
 pub use place::Place;
 pub use shared::Shared;
-

@@ -1,5 +1,5 @@
 -- The view is lent behind all entries, and while the pass waits it has what it had.
-use Rattle.std.proofs.Common.{◌≡◌, ℕ, ◌+◌, ◌<◌, ◌≤◌, ◌++◌, ◌∷◌, [], List, ap, sym, subst, refl, arith, false}
+use Rattle.std.proofs.Common.{◌+◌, ◌++◌, ◌∷◌, [], List, ap, sym, subst, refl, arith, false}
 use Rattle.store_trait.specs.Calls.View.{Begins}
 use Rattle.store_trait.specs.Told.{Keeps}
 use Rattle.shard_steps.specs.declared.shard.Shard.{Shard}

@@ -1,5 +1,5 @@
 -- The view is one of the engine's, since it is one of the pass's.
-use Rattle.std.proofs.Common.{◌≡◌, ◌∙◌, ℕ, ◌+◌, ◌<◌, ◌≤◌, [], List, ap, sym, subst, refl, arith}
+use Rattle.std.proofs.Common.{◌∙◌, ℕ, ◌<◌, [], List, ap, sym, subst, refl, arith}
 use Rattle.store_trait.specs.Calls.View.{Ends}
 use Rattle.shard_steps.specs.declared.shard.Shard.{Shard}
 use Rattle.shard_shared.specs.Entries.{without_view}

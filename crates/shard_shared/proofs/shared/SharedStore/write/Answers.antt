@@ -1,5 +1,5 @@
 -- The engine comes to one entry more, or stays at the same.
-use Rattle.std.proofs.Common.{◌≡◌, ◌∙◌, ℕ, ◌+◌, ◌≤◌, ◌++◌, ◌∷◌, [], List, length, ap, sym, subst, refl, arith}
+use Rattle.std.proofs.Common.{◌∙◌, ◌+◌, ◌≤◌, ◌++◌, ◌∷◌, [], List, length, ap, sym, subst, refl, arith}
 use Rattle.history_turn.proofs.HistoriesLemmas.{starts_longer}
 use Rattle.store_trait.specs.Calls.Write.{WriteHasCause}
 use Rattle.store_trait.specs.Told.{Keeps}
