@@ -1,5 +1,5 @@
 -- A session over the store of one engine is explained by its history, and the closed disk has it.
-use Rattle.std.proofs.Common.{◌≡◌, ℕ, ◌+◌, ◌≤◌, min, Bool, true, List, [], ◌∷◌, ◌++◌, length, refl, sym, ap, ◌∙◌, subst, Option, Some, None, IsPermutation}
+use Rattle.std.proofs.Common.{◌≡◌, ℕ, ◌+◌, ◌≤◌, min, Bool, true, List, [], ◌∷◌, ◌++◌, length, refl, sym, ap, ◌∙◌, subst, arith, Option, Some, None, IsPermutation}
 use Rattle.std.specs.Prelude.{IsTrue, OnErr, OnOk, Result}
 use Rattle.std.specs.declared.result.Result.TheVariants.{Ok, Err}
 use Rattle.std.specs.Option.{option_to_list}
@@ -21,7 +21,7 @@ use Rattle.session_loop.specs.Steps.{HasCause, Stored}
 use Rattle.session_loop.proofs.MemoryLemmas.{same_numbers}
 use Rattle.shard_state.specs.Books.{state_in}
 use Rattle.shard_state.specs.Calls.{Closes}
-use Rattle.shard_state.specs.History.{StandsForPrefix}
+use Rattle.shard_state.specs.History.{AreKept, StandsForPrefix}
 use Rattle.shard_state.specs.Meaning.{Stands, StandsWithAtMost}
 use Rattle.shard_state.specs.Opening.{IsSoundThroughout}
 use Rattle.gate_log.proofs.Results.{on_ok_then}
@@ -31,7 +31,7 @@ use Rattle.shard_calls.specs.Told.{limits_of, told_of}
 use Rattle.shard_steps.specs.Shards.{state_of}
 use Rattle.shard_steps.specs.declared.shard.Shard.{Shard}
 use Rattle.engine_session.specs.Durable.{Lasts}
-use Rattle.engine_session.specs.Serving.{IsServedFrom, Serves}
+use Rattle.engine_session.specs.Serving.{AreServed, ClientSession, Serves}
 use Rattle.engine_session.specs.declared.serving.Ended.{Ended}
 
 -- ---- what the client was told
@@ -69,18 +69,23 @@ module _ (start : State) (limits : Limits) (old new : Stored) (transcript : Tran
   }
 
 pub served_from : (start : State) (limits : Limits) (before now : Client) (old new : Stored) (report : Report) → BeginsWith start limits old.told → IsSession before now old new report
-    → IsServedFrom before now start limits new.told.series new.told.history old.health new.health report
+    → AreServed (record { before = before; now = now; report = report } ∷ []) start limits new.told.series new.told.history old.health new.health
 served_from start limits before now old new report begins session =
     let same = append-nil (all_answers session.dialogue) in
     record {
-      transcript = session.transcript;
-      read = session.read;
-      left = session.left;
-      ended = session.ended;
-      all_read = session.all_read;
-      moments = session.moments;
-      written = session.written;
-      reported = session.reported;
+      transcripts = session.transcript ∷ [];
+      are = (
+        record {
+          read = session.read;
+          left = session.left;
+          ended = session.ended;
+          all_read = session.all_read;
+          moments = session.moments;
+          written = session.written;
+          reported = session.reported;
+        },
+        tt,
+      );
       explained = explained start limits old new session.transcript session.dialogue begins session.is;
       ages = session.is.ages;
       faults = subst (λ (l : List Answer). min (old.health.faults + faults_in l) last_count ≤ new.health.faults) (sym same) session.is.faults;
@@ -114,22 +119,31 @@ module _ {D R W : Type 0} (g : Ghosts D R W) (start : State) (since : ℕ) (hist
   each : (c : Directory) → (g.crashes disk).since since c → StandsForPrefix start history ran.refused 0 c
   each c left = subst (λ (l : List Entry). StandsForPrefix start l ran.refused 0 c) ran.are ((closes.ran told start since ran.made ran.refused ran.doubt ran.runs.logs).each c left)
 
+  kept : AreKept (g.crashes disk) start history ran.refused 0 ran.made
+  kept = subst (λ (l : List Entry). AreKept (g.crashes disk) start l ran.refused 0 ran.made) ran.are (closes.ran told start since ran.made ran.refused ran.doubt ran.runs.logs).kept
+
   lasts_ok : IsSoundThroughout g disk (state_in ran.runs.logs.books) → OnOk closed (IsSoundThroughout g disk (state_after start history)) → Lasts g disk since start history closed
   lasts_ok sound exactly = record {
+    made = ran.made;
+    are = ran.are;
     refused = ran.refused;
     doubt = None;
     asked = tt;
     each = each;
+    kept = kept;
     now = λ c now. subst (λ (s : State). Stands c s) state_is (sound.images c now);
     exactly = exactly;
   }
 
   lasts_err : ((c : Directory) → (g.crashes disk).now c → StandsWithAtMost (state_in ran.runs.logs.books) (option_to_list ran.doubt) c) → OnOk closed (IsSoundThroughout g disk (state_after start history)) → Lasts g disk since start history closed
   lasts_err left exactly = record {
+    made = ran.made;
+    are = ran.are;
     refused = ran.refused;
     doubt = ran.doubt;
     asked = ran.runs.logs.asked;
     each = each;
+    kept = kept;
     now = λ c now. subst (λ (s : State). StandsWithAtMost s (option_to_list ran.doubt) c) state_is (left c now);
     exactly = exactly;
   }
@@ -153,28 +167,52 @@ module _ {D R W : Type 0} (g : Ghosts D R W) (start : State) (since : ℕ) (hist
 
 module _ {D R W : Type 0} (g : Ghosts D R W) (before now : Client) (start : State) (first : List (List ℕ)) (engine : Shard D) (is : state_of engine ≡ start) (held : engine.logs.series.keys ≡ first) (old new : Stored)
     (told : old.told ≡ told_of 0 start first [] engine) (health : old.health ≡ g.health engine.logs.disk) (ended : Ended D) (session : IsSession before now old new ended.report) (last : Told) (kept : Keeps new.told last) (alike : IsAlike new.told last) where
+  abbrev one : List ClientSession
+  one = record { before = before; now = now; report = ended.report } ∷ []
+
   begins : BeginsWith start (limits_of start first engine) old.told
   begins = begins_with start first engine old.told told
 
-  served : IsServedFrom before now (state_of engine) (limits_of (state_of engine) engine.logs.series.keys engine) new.told.series new.told.history (g.health engine.logs.disk) new.health ended.report
+  served : AreServed one (state_of engine) (limits_of (state_of engine) engine.logs.series.keys engine) new.told.series new.told.history (g.health engine.logs.disk) new.health
   served =
-      subst (λ (h : Health). IsServedFrom before now (state_of engine) (limits_of (state_of engine) engine.logs.series.keys engine) new.told.series new.told.history h new.health ended.report) health
-      (subst (λ (s : State). IsServedFrom before now s (limits_of s engine.logs.series.keys engine) new.told.series new.told.history old.health new.health ended.report) (sym is)
-      (subst (λ (l : List (List ℕ)). IsServedFrom before now start (limits_of start l engine) new.told.series new.told.history old.health new.health ended.report) (sym held)
+      subst (λ (h : Health). AreServed one (state_of engine) (limits_of (state_of engine) engine.logs.series.keys engine) new.told.series new.told.history h new.health) health
+      (subst (λ (s : State). AreServed one s (limits_of s engine.logs.series.keys engine) new.told.series new.told.history old.health new.health) (sym is)
+      (subst (λ (l : List (List ℕ)). AreServed one start (limits_of start l engine) new.told.series new.told.history old.health new.health) (sym held)
       (served_from start (limits_of start first engine) before now old new ended.report begins session)))
 
   pub serves : ended.number ≡ (state_now last).number → (shard : Shard D) → (IsTrue g.tells → (since : ℕ) → HasRun g start since [] engine → HasRun g start since last.history shard)
-      → Closes g shard.logs ended.disk ended.closed → new.health ≡ g.health shard.logs.disk → Serves g before now engine ended
+      → Closes g shard.logs ended.disk ended.closed → new.health ≡ g.health shard.logs.disk → Serves g one engine ended.disk ended.number ended.closed
   serves number shard ran closes left = record {
     history = new.told.history;
     held = new.told.series;
     middle = new.health;
-    session = served;
-    number = counts start (limits_of start first engine) before now old new ended.report begins session last kept alike ended.number number ∙ ap (λ (s : State). s.number + length new.told.history) (sym is);
+    served = served;
+    counted = counts start (limits_of start first engine) before now old new ended.report begins session last kept alike ended.number number ∙ ap (λ (s : State). s.number + length new.told.history) (sym is);
     lasts = λ told since first_run.
         subst (λ (s : State). Lasts g ended.disk since s new.told.history ended.closed) (sym is)
         (lasts g start since new.told.history shard ended.disk ended.closed closes told
         (subst (λ (h : List Entry). HasRun g start since h shard) (same_history start (limits_of start first engine) before now old new ended.report begins session last kept alike)
         (ran told since (subst (λ (s : State). HasRun g s since [] engine) is first_run))));
     closing = subst (λ (h : Health). FaultHasCause ended.closed h (g.health ended.disk)) (sym left) closes.fault;
+  }
+
+-- ---- nobody
+
+module _ {D R W : Type 0} (g : Ghosts D R W) (engine : Shard D) (disk : D) (number : ℕ) (closed : Result (Unit {0}) Trouble) where
+  pub serves_none : number ≡ (state_of engine).number → Closes g engine.logs disk closed → Serves g [] engine disk number closed
+  serves_none is closes = record {
+    history = [];
+    held = 0;
+    middle = g.health engine.logs.disk;
+    served = record {
+      transcripts = [];
+      are = tt;
+      explained = record { dialogues = []; told = tt; each_once = IsPermutation-refl [] };
+      ages = record { later = omega arith; steady = λ steady. refl };
+      faults = omega arith;
+      quiet = λ none. refl;
+    };
+    counted = omega (arith, is);
+    lasts = λ told since run. lasts g (state_of engine) since [] engine disk closed closes told run;
+    closing = closes.fault;
   }

@@ -1,3 +1,5 @@
+pub mod Clients
+pub mod Devices
 pub mod Durable
 pub mod Ends
 pub mod Serving

@@ -5,4 +5,4 @@ mod directory;
 mod serving;
 
 pub use directory::{ShellEnd, shell};
-pub use serving::{Ended, serve};
+pub use serving::{Ended, close_unserved, serve};

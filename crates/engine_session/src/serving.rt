@@ -1,4 +1,4 @@
-ghost use Rattle.std.specs.Prelude.{◌≡◌, [], ℕ};
+ghost use Rattle.std.specs.Prelude.{◌≡◌, [], ◌∷◌, ℕ};
 ghost use Rattle.session_loop.specs.Sessions.{told};
 ghost use Rattle.shard_calls.specs.Holds.{HasRun};
 ghost use Rattle.shard_steps.specs.Shards.{IsReady, state_of};
@@ -38,12 +38,25 @@ pub fn serve<D: EngineDisk, S: Source, K: Sink, C: Clock, G: Gate>(
     requires unlent { shard.views ≡ 0 }
 
     // One history explains what the client was told, and it is what the disk was left with.
-    ensures serves { Serves D.Disk (told S.given S.left S.ended K.written C.moments source.old sink.old clock.old)
-        (told S.given S.left S.ended K.written C.moments source.new sink.new clock.new) shard result }
+    ensures serves { Serves D.Disk (record {
+      before = told S.given S.left S.ended K.written C.moments source.old sink.old clock.old;
+      now = told S.given S.left S.ended K.written C.moments source.new sink.new clock.new;
+      report = result.report;
+    } ∷ []) shard result.disk result.number result.closed }
 
     ensures ends { EndsBy S.ended S.health K.health source.old source.new sink.old sink.new result.report }
 {
     serve_at::<D, Brand, S, K, C, G>(alloc, shard, source, sink, clock, gate)
+}
+
+/// Closes an engine that serves nobody. The disk comes back, with the number of the last entry and whether nothing is in doubt.
+pub fn close_unserved<D: EngineDisk>(shard: Shard<D>) -> (D, u64, Result<(), Trouble>)
+    requires ready { IsReady D.Disk shard }
+    ensures serves { Serves D.Disk [] shard result.0 result.1 result.2 }
+{
+    let number = shard.number();
+    let (disk, closed) = close(shard.into_logs());
+    (disk, number, closed)
 }
 
 fn serve_at<D: EngineDisk, B: Site, S: Source, K: Sink, C: Clock, G: Gate>(
@@ -61,8 +74,11 @@ fn serve_at<D: EngineDisk, B: Site, S: Source, K: Sink, C: Clock, G: Gate>(
     requires sound { (since : ℕ) → B.is_sound since → HasRun D.Disk B.start since [] shard }
     requires is_sound { (since : ℕ) → HasRun D.Disk B.start since [] shard → B.is_sound since }
 
-    ensures serves { Serves D.Disk (told S.given S.left S.ended K.written C.moments source.old sink.old clock.old)
-        (told S.given S.left S.ended K.written C.moments source.new sink.new clock.new) shard result }
+    ensures serves { Serves D.Disk (record {
+      before = told S.given S.left S.ended K.written C.moments source.old sink.old clock.old;
+      now = told S.given S.left S.ended K.written C.moments source.new sink.new clock.new;
+      report = result.report;
+    } ∷ []) shard result.disk result.number result.closed }
     ensures ends { EndsBy S.ended S.health K.health source.old source.new sink.old sink.new result.report }
 {
     let mut store = Alone::<D, B>::new(alloc, 0, shard);
