@@ -1,4 +1,4 @@
-//! InfluxQL: a text is read to the one statement that it is, or refused by its one cause.
+//! InfluxQL: the text of a SHOW is read to it, and refused exactly where it is none. No other statement is read yet.
 #![tactic(auto)]
 
 mod fault;
