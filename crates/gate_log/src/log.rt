@@ -1,6 +1,6 @@
 ghost use Rattle.std.specs.Prelude.{◌≡◌, ◌≢◌, ◌↔◌, ◌+◌, ◌^◌, ◌<◌, ◌≤◌, ◌++◌, [], ◌∷◌, ℕ, List, length, Option, Some, None, IsTrue, IsOk, IfOk, IsErrOf, OnOk, OnErr};
 ghost use Rattle.shard_disk.specs.Crash.{Everywhere, Leaves};
-ghost use Rattle.shard_disk.specs.Directory.{Appears, ChangesAt, Ends, MadeOrNot};
+ghost use Rattle.shard_disk.specs.Directory.{Anything, Appears, ChangesAt, Ends, MadeOrNot};
 ghost use Rattle.shard_disk.specs.Health.{HasCause};
 ghost use Rattle.shard_disk.specs.Stage.{Finished, Refused};
 ghost use Rattle.gate_log.specs.Records.{framed, IsGated, IsReady, Spells, WithAtMost, spelled};
@@ -98,6 +98,7 @@ impl Log {
         ensures crash { IsTrue D.tells → HasGate self.old → (records : List (List ℕ)) (doubt : Option (List ℕ))
             → Stands (D.files disk.old) (D.crashes disk.old) self.old records doubt
             → Leaves (ChangesAt self.old.file (Ends (WithAtMost records (doubtful doubt)))) (D.crashes disk.old) (D.crashes disk.new) }
+        ensures elsewhere { Leaves (ChangesAt self.old.file Anything) (D.crashes disk.old) (D.crashes disk.new) }
         ensures idle { IsShutLog self.old → (IsOk result) × (self.new ≡ self.old) × (disk.new ≡ disk.old) }
         ensures placed { IsTrue D.tells → IsPlaced (D.files disk.new) self.new }
         ensures kept { KeepsFile (IsTrue D.tells) self.old self.new (D.files disk.old) (D.files disk.new) }
@@ -130,6 +131,7 @@ impl Log {
         ensures crash { IsTrue D.tells → HasGate self.old → (records : List (List ℕ)) (doubt : Option (List ℕ))
             → Stands (D.files disk.old) (D.crashes disk.old) self.old records doubt
             → Leaves (ChangesAt self.old.file (Ends (WithAtMost records (frame.now ∷ doubtful doubt)))) (D.crashes disk.old) (D.crashes disk.new) }
+        ensures elsewhere { Leaves (ChangesAt self.old.file Anything) (D.crashes disk.old) (D.crashes disk.new) }
         ensures placed { IsTrue D.tells → IsPlaced (D.files disk.new) self.new }
         ensures kept { KeepsFile (IsTrue D.tells) self.old self.new (D.files disk.old) (D.files disk.new) }
         ensures handed_out { D.handed_out disk.new ≡ D.handed_out disk.old }
@@ -163,6 +165,7 @@ impl Log {
         ensures crash { (records : List (List ℕ))
             → Stands (D.files disk.old) (D.crashes disk.old) self.now records None
             → Leaves (ChangesAt self.now.file (Ends (IsGated records))) (D.crashes disk.old) (D.crashes disk.new) }
+        ensures elsewhere { Leaves (ChangesAt self.now.file Anything) (D.crashes disk.old) (D.crashes disk.new) }
 
         ensures reaches { OnOk result (IsTrue D.tells → Reaches (D.files disk.new) self.now (1 + length frame.now)) }
         ensures placed { IsTrue D.tells → IsPlaced (D.files disk.new) self.now }
@@ -190,6 +193,7 @@ impl Log {
         ensures crash { (records : List (List ℕ)) (body : List ℕ) → self.old.end ≡ length (spelled records)
             → Everywhere (D.files disk.old) (D.crashes disk.old) self.old.file (Spells records (IsReady body))
             → Leaves (ChangesAt self.old.file (Ends (WithAtMost records (body ∷ [])))) (D.crashes disk.old) (D.crashes disk.new) }
+        ensures elsewhere { Leaves (ChangesAt self.old.file Anything) (D.crashes disk.old) (D.crashes disk.new) }
 
         ensures placed { IsTrue D.tells → IsPlaced (D.files disk.new) self.new }
         ensures kept { KeepsFile (IsTrue D.tells) self.old self.new (D.files disk.old) (D.files disk.new) }

@@ -1,7 +1,7 @@
 -- What adding a record makes of a log.
 use Rattle.std.specs.Prelude.{◌≡◌, ℕ, ◌+◌, List, [], ◌∷◌, ◌++◌, length, Option, None, Result, IsTrue, OnOk, OnErr, IsErrOf}
 use Rattle.shard_disk.specs.Crash.{Crashes, Everywhere, Leaves}
-use Rattle.shard_disk.specs.Directory.{Directory, ChangesAt, Ends}
+use Rattle.shard_disk.specs.Directory.{Directory, Anything, ChangesAt, Ends}
 use Rattle.shard_disk.specs.Health.{HasCause}
 use Rattle.shard_disk.specs.declared.disk.Disk.{Ghosts}
 use Rattle.shard_disk.specs.declared.trouble.Trouble.{Trouble}
@@ -30,12 +30,14 @@ pub record AddsNone (tells fault : Type 0) (body : List ℕ) (old new : Log) (fi
   pub sure : (fault → ⊥) → new.gate ≡ InDoubt → old.gate ≡ InDoubt
 
 -- A record is added, or a refusal left the records as they were. A crash at any moment of the call leaves them with at most the new
--- one or the one in doubt. It takes no memory: want of memory is the disk's alone, or an end of the file past 2 ^ 64.
+-- one or the one in doubt, and every other file as before, also where the log had no gate. It takes no memory: want of memory is the
+-- disk's alone, or an end of the file past 2 ^ 64.
 pub record Appends {D R W : Type 0} (g : Ghosts D R W) (body : List ℕ) (old new : Log) (disk disk' : D) (result : Result (Unit {0}) Trouble) : Type 0 where
   pub ok : OnOk result (Adds (IsTrue g.tells) body old new (g.files disk) (g.files disk') (g.crashes disk) (g.crashes disk'))
   pub refused : OnErr result (AddsNone (IsTrue g.tells) (IsErrOf result Fault) body old new (g.files disk) (g.files disk') (g.crashes disk) (g.crashes disk'))
   pub crash : IsTrue g.tells → HasGate old → (records : List (List ℕ)) (doubt : Option (List ℕ)) → Stands (g.files disk) (g.crashes disk) old records doubt
       → Leaves (ChangesAt old.file (Ends (WithAtMost records (body ∷ doubtful doubt)))) (g.crashes disk) (g.crashes disk')
+  pub elsewhere : Leaves (ChangesAt old.file Anything) (g.crashes disk) (g.crashes disk')
   pub placed : IsTrue g.tells → IsPlaced (g.files disk') new
   pub kept : KeepsFile (IsTrue g.tells) old new (g.files disk) (g.files disk')
   pub handed_out : g.handed_out disk' ≡ g.handed_out disk

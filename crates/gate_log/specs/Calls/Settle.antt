@@ -28,12 +28,13 @@ pub record KeepsFile (tells : Type 0) (old new : Log) (files files' : Directory)
   pub others : tells → ChangesAt old.file Anything files files'
 
 -- The doubt is ended, or a refusal left it. A crash at any moment of the call leaves the records, with the one in doubt or without.
--- Where a closed gate ends the log nothing is done.
+-- Every other file it leaves as before, also where the log had no gate. Where a closed gate ends the log nothing is done.
 pub record Settling {D R W : Type 0} (g : Ghosts D R W) (old new : Log) (disk disk' : D) (result : Result (Unit {0}) Trouble) : Type 0 where
   pub ok : OnOk result (Settles (IsTrue g.tells) old new (g.files disk) (g.files disk') (g.crashes disk) (g.crashes disk'))
   pub refused : OnErr result (Remains (IsTrue g.tells) old new (g.files disk) (g.files disk') (g.crashes disk) (g.crashes disk'))
   pub crash : IsTrue g.tells → HasGate old → (records : List (List ℕ)) (doubt : Option (List ℕ)) → Stands (g.files disk) (g.crashes disk) old records doubt
       → Leaves (ChangesAt old.file (Ends (WithAtMost records (doubtful doubt)))) (g.crashes disk) (g.crashes disk')
+  pub elsewhere : Leaves (ChangesAt old.file Anything) (g.crashes disk) (g.crashes disk')
   pub idle : IsShutLog old → IsOk result × (new ≡ old) × (disk' ≡ disk)
   pub placed : IsTrue g.tells → IsPlaced (g.files disk') new
   pub kept : KeepsFile (IsTrue g.tells) old new (g.files disk) (g.files disk')

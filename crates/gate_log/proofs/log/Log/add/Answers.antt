@@ -2,6 +2,7 @@ use Rattle.std.proofs.Common.{◌∷◌, [], inl, inr, length, refl, sym, ◌∙
 use Rattle.gate_log.specs.declared.log.Log.{Log}
 use Rattle.std.proofs.lemmas.Result.{err_from_is_err_and}
 use Rattle.gate_log.proofs.Appending.{widens, leaves_staged, leaves_opened}
+use Rattle.gate_log.proofs.Elsewhere.{here_then, nowhere}
 use Rattle.gate_log.proofs.Results.{on_ok_then, on_trouble}
 use Rattle.gate_log.proofs.Settling.{leaves_as_it_is}
 use Rattle.gate_log.proofs.log.Log.add.Goals as goal
@@ -80,3 +81,18 @@ returns-clause-crash g c =
     (c.settle.ensures.crash tells has records doubt stands)
     (c.stage.ensures.crash records settled)
     (c.open_gate.ensures.crash records c.args.frame.now settled.place (c.in_ok-stage.ensures.staged tells records c.args.frame.now (c.bytes-frame.ensures.bytes) settled))
+
+pub returns-then-size-self-clause-elsewhere : goal.returns-then-size-self-clause-elsewhere
+returns-then-size-self-clause-elsewhere g c =
+    let laws = g.met.D.Disk g.world.𝓛 g.world.𝓜 g.world.𝓡 ((λ s x. x), (λ x. x), (λ x. x), (λ x. x)) in
+    nowhere c.args.self.now.file (g.D.Disk.crashes c.args.disk.now) (laws.only_now c.args.disk.now)
+
+pub returns-in_err-stage-clause-elsewhere : goal.returns-in_err-stage-clause-elsewhere
+returns-in_err-stage-clause-elsewhere g c =
+    here_then c.args.self.now.file c.settle.new.self.file (g.D.Disk.crashes c.args.disk.now) (g.D.Disk.crashes c.settle.new.disk) (g.D.Disk.crashes c.stage.new.disk) c.settle.ensures.kept.file c.settle.ensures.elsewhere c.stage.ensures.elsewhere
+
+pub returns-clause-elsewhere : goal.returns-clause-elsewhere
+returns-clause-elsewhere g c =
+    here_then c.args.self.now.file c.settle.new.self.file (g.D.Disk.crashes c.args.disk.now) (g.D.Disk.crashes c.stage.new.disk) (g.D.Disk.crashes c.open_gate.new.disk) c.settle.ensures.kept.file
+    (here_then c.args.self.now.file c.settle.new.self.file (g.D.Disk.crashes c.args.disk.now) (g.D.Disk.crashes c.settle.new.disk) (g.D.Disk.crashes c.stage.new.disk) c.settle.ensures.kept.file c.settle.ensures.elsewhere c.stage.ensures.elsewhere)
+    c.open_gate.ensures.elsewhere
