@@ -48,9 +48,9 @@ IsInDoubt log = log.gate ≡ InDoubt
 abbrev pub IsShutLog : Log → Type 0
 IsShutLog log = log.gate ≡ Shut
 
--- no record, and none in doubt
+-- no record: a closed gate stands first
 abbrev pub IsEmptyLog : Log → Type 0
-IsEmptyLog log = (log.end ≡ 0) × (log.gate ≢ InDoubt)
+IsEmptyLog log = (log.end ≡ 0) × IsShutLog log
 
 -- the number of its file
 abbrev pub file_of : Log → ℕ

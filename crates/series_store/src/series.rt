@@ -44,7 +44,8 @@ impl Series {
     ghost use Rattle.series_store.specs.Lists.{HasId, HasNoId, IsList, MayAdd};
     ghost use Rattle.series_store.specs.Reading.{IsWrong};
 
-    /// No series yet, in a log without a record. The seed of the hashes is one that clients don't know: they choose the series.
+    /// No series yet, in a log without a record, which a closed gate ends. The seed of the hashes is one that clients don't know:
+    /// they choose the series.
     pub fn new(alloc: Global, seed: Seed, log: Log) -> Series
         requires { IsEmptyLog log }
         ensures keys { result.keys ≡ [] }

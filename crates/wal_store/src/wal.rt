@@ -44,8 +44,8 @@ impl Wal {
     ghost use Rattle.gate_log.specs.Log.{IsEmptyLog, IsInDoubt, IsPlaced};
     ghost use Rattle.wal_store.specs.Segments.{MayFollow, one_segment, settled_segments, with_number, with_segment, without_segments};
 
-    /// A log of one segment, which has no record; its first entry has the number after this one. It keeps the allocator. Where there
-    /// is no memory the segment comes back.
+    /// A log of one segment, which has no record and a closed gate; its first entry has the number after this one. It keeps the
+    /// allocator. Where there is no memory the segment comes back.
     pub fn new(alloc: Global, log: Log, last: u64) -> Result<Wal, (Log, AllocError)>
         requires { IsEmptyLog log }
         ensures ok { IfOk result (λ wal. wal ≡ one_segment log last) }
@@ -162,7 +162,7 @@ impl Wal {
         Ok(())
     }
 
-    /// Goes on with a further segment, which has no record. It takes no memory.
+    /// Goes on with a further segment, which has no record and a closed gate, as `Log::make` leaves it. It takes no memory.
     pub fn roll(&mut self, log: Log)
         requires room { self.old.has_room ≡ true }
         requires settled { IsInDoubt self.old.log → ⊥ }
