@@ -112,11 +112,13 @@ impl Series {
         self.keys.get_index(id as usize)
     }
 
-    /// Makes series ready to be added: their record, and room for them. This is what takes memory of adding them.
+    /// Makes series ready to be added: their record, and room for them. This is what takes memory of adding them. The room that an
+    /// earlier call made stays, whatever the answer.
     pub fn prepare(&mut self, keys: &[SeriesKey]) -> Result<NewSeries, AllocError>
         requires { MayAdd self.old.keys keys.now }
         ensures ok { IfOk result (λ new. new ≡ keys.now) }
         ensures room { OnOk result (length keys.now ≤ self.new.room) }
+        ensures grows { self.old.room ≤ self.new.room }
         ensures same { self.new ≡ record self.old { room = self.new.room } }
     {
         let new = NewSeries::new(self.alloc, keys)?;
