@@ -73,7 +73,9 @@ fn entries_past_the_floor_have_their_places(rt: HostRuntime) -> Result<(), Faile
             offset: 110
         }
     );
-    assert!(rt; replay.next()?.is_none());
+    let None = replay.next()? else {
+        return Err("an entry more".into());
+    };
     is_there(&disk, 1)?;
     replay.go_on(&mut disk, 1)?;
     assert_eq!(rt; next_place(&mut replay)?, Place { file: 1, offset: 0 });

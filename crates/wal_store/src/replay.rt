@@ -91,8 +91,9 @@ impl Replay {
         })
     }
 
-    /// Opens the next segment, where the entries of the last one are taken. A refusal leaves the segments as they are. The file is
-    /// made durable before it answers.
+    /// Opens the next segment, where the open one is read to its end. A refusal leaves the segments as they are. The file is made
+    /// durable before it answers.
+        requires read { self.old.left ≡ [] }
     pub fn go_on<D: Disk>(&mut self, disk: &mut D, file: u32) -> Result<(), LogFault>
         requires present { IsTrue D.tells → IsPresent (D.files disk.old) file }
 

@@ -36,6 +36,9 @@ go_on-requires-clause-present g c κs within = λ tells.
     subst (λ (f : Directory). IsPresent f (get_or c.cut_first-first.result.1.now c.loop-file.file-index 0)) (sym c.loop-file.invariant.files)
     (so_behind (IsPresent (g.D.Disk.files c.args.disk.now)) c.cut_first-first.result.0 c.args.segments.now c.cut_first-first.result.1.now c.loop-file.file-index 0 c.cut_first-first.ensures c.loop-file-test.true (c.requires.present tells))
 
+pub go_on-requires-clause-read : goal.go_on-requires-clause-read
+go_on-requires-clause-read g c κs within = c.loop-file.invariant.all.none
+
 pub returns-in_err-go_on-clause-damaged : goal.returns-in_err-go_on-clause-damaged
 returns-in_err-go_on-clause-damaged g c = λ damage is tells.
     let p = err_from_is_err_and c.from_residual-in_err-go_on.result c.from_residual-in_err-go_on.ensures.1 in
