@@ -1,5 +1,5 @@
 -- Items one behind the other are taken off the front of bytes in one way.
-use Rattle.std.proofs.Common.{◌≡◌, ◌≢◌, ℕ, ◌+◌, ◌<◌, ◌≤◌, List, [], ◌∷◌, ◌++◌, length, refl, sym, ap, ◌∙◌, arith}
+use Rattle.std.proofs.Common.{◌≡◌, ◌≢◌, ℕ, ◌+◌, ◌<◌, ◌≤◌, List, [], ◌∷◌, ◌++◌, length, drop, slice_index_or, refl, sym, ap, ◌∙◌, arith}
 use Rattle.std.specs.List.{flat_map, AllByRecursion}
 use Rattle.std.proofs.lemmas.List.{append_assoc, append-nil, length-append}
 
@@ -86,3 +86,8 @@ same_items X bytes_of Is unique (x ∷ xs) (y ∷ ys) r s a b l is =
     let one = unique x y (flat_map bytes_of xs ++ r) (flat_map bytes_of ys ++ s) a.0 b.0 (sym (append_assoc (bytes_of x) (flat_map bytes_of xs) r) ∙ is ∙ append_assoc (bytes_of y) (flat_map bytes_of ys) s) in
     let rest = same_items X bytes_of Is unique xs ys r s a.1 b.1 (omega (arith, l)) one.1 in
     (λ i. one.0 i ∷ rest.0 i, rest.1)
+
+-- the item at the front, and those behind it
+pub at_front : {X : Type 0} (xs : List X) (x : X) → 0 < length xs → x ≡ slice_index_or xs 0 x → xs ≡ x ∷ drop 1 xs
+at_front [] x some is = absurd (let none : 0 < 0 = some in omega (arith, none))
+at_front (y ∷ ys) x some is = ap (λ z. z ∷ ys) (sym is)

@@ -8,7 +8,7 @@ use Rattle.shard_disk.specs.declared.damage.Damage.{Damage}
 use Rattle.shard_disk.specs.declared.damage.Why.{Why}
 use Rattle.wal_store.specs.declared.replay.Place.{Place}
 use Rattle.wal_store.specs.Replay.{AreCounted, IsStrange, Logged, StandsStrange, past}
-use Rattle.wal_store.specs.Reading.{Ends, Gives, HasRead, Reads, Replaying, TakesAll, entries_past, with_record}
+use Rattle.wal_store.specs.Reading.{Ends, Follows, Gives, HasRead, NextIsStrange, Passes, Reads, Replaying, TakesAll, entries_past, with_record}
 use Rattle.wal_store.specs.Segments.{Segments, SpellsRecord}
 use Rattle.wal_store.proofs.ReplayLemmas.{are_more, counted_more, is_below, is_past, leads_of, newest_more, past_more, spelled_more}
 
@@ -119,68 +119,59 @@ module _ (old : Replaying) (rest : List (List ℕ)) (number : ℕ) (entry : Entr
 
 -- ---- so many records, none of which is past the floor
 
--- these were read since the first, and the next stands behind them
-pub record Passed (first now : Replaying) : Type 0 where
-  pub read : List (List ℕ)
-  pub reads : Reads first now read []
-  pub gate : now.gate ≡ first.gate + length (spelled read)
+pub passed_none : (r : Replaying) → Passes r r
+passed_none r = record { passed = []; reads = reads_none r; gate = omega arith }
 
-pub passed_none : (r : Replaying) → Passed r r
-passed_none r = record { read = []; reads = reads_none r; gate = omega arith }
-
-module _ (first now new : Replaying) (rest : List (List ℕ)) (number : ℕ) (entry : Entry) (body : List ℕ) (passed : Passed first now) (next : now.left ≡ body ∷ rest) (spells : SpellsRecord number entry body)
-    (is : new ≡ with_record (record { floor = now.floor; wal = now.wal; left = rest; gate = now.gate }) number (length body)) where
-  pub passed_more : number ≤ now.floor → Passed first new
+-- the next record was read
+module _ (first now new : Replaying) (number : ℕ) (entry : Entry) (passed : Passes first now) (next : Follows now new number entry) where
+  pub passed_more : number ≤ now.floor → Passes first new
   passed_more low =
-      subst (Passed first) (sym is) (record {
-        read = passed.read ++ body ∷ [];
-        reads = reads_then first now (after now rest number entry body next spells) passed.read (body ∷ []) [] [] passed.reads (reads_below now rest number entry body next spells low);
-        gate = omega (arith, passed.gate, spelled_more passed.read body);
+      let all = after now next.rest number entry next.body next.parts next.spells in
+      subst (Passes first) (sym next.is) (record {
+        passed = passed.passed ++ next.body ∷ [];
+        reads = reads_then first now all passed.passed (next.body ∷ []) [] [] passed.reads (reads_below now next.rest number entry next.body next.parts next.spells low);
+        gate = omega (arith, passed.gate, spelled_more passed.passed next.body);
       })
 
-  pub gives : now.floor < number → number ≡ now.wal.last + 1 → (place : Place) → place ≡ record { file = now.wal.log.file; offset = now.gate } → Gives first new place entry
-  gives high counts place at =
-      subst (λ (r : Replaying). Gives first r place entry) (sym is) (record {
-        passed = passed.read;
-        body = body;
-        reads = reads_then first now (after now rest number entry body next spells) passed.read (body ∷ []) [] (entry ∷ []) passed.reads (reads_next now rest number entry body next spells high counts);
-        spells = let same : max now.wal.last number ≡ number = omega (arith, counts) in subst (λ (n : ℕ). SpellsRecord n entry body) (sym same) spells;
+  pub gives : now.floor < number → (place : Place) → place ≡ record { file = now.wal.log.file; offset = now.gate } → Gives first new place entry
+  gives high place at =
+      let counts = next.next high in
+      let all = after now next.rest number entry next.body next.parts next.spells in
+      subst (λ (r : Replaying). Gives first r place entry) (sym next.is) (record {
+        passed = passed.passed;
+        body = next.body;
+        reads = reads_then first now all passed.passed (next.body ∷ []) [] (entry ∷ []) passed.reads (reads_next now next.rest number entry next.body next.parts next.spells high counts);
+        spells = let same : max now.wal.last number ≡ number = omega (arith, counts) in subst (λ (n : ℕ). SpellsRecord n entry next.body) (sym same) next.spells;
         file = ap (λ (p : Place). p.file) at ∙ ap (λ (w : Segments). w.log.file) passed.reads.same;
         offset = ap (λ (p : Place). p.offset) at ∙ passed.gate;
       })
 
 -- no record is left
-pub ends : (first now new : Replaying) → Passed first now → now.left ≡ [] → new ≡ now → Ends first new
+pub ends : (first now new : Replaying) → Passes first now → now.left ≡ [] → new ≡ now → Ends first new
 ends first now new passed none same =
     subst (Ends first) (sym same) (record {
-      reads = subst (λ (read : List (List ℕ)). Reads first now read []) (sym (passed.reads.parts ∙ ap (λ (l : List (List ℕ)). passed.read ++ l) none ∙ append-nil passed.read)) passed.reads;
+      reads = subst (λ (read : List (List ℕ)). Reads first now read []) (sym (passed.reads.parts ∙ ap (λ (l : List (List ℕ)). passed.passed ++ l) none ∙ append-nil passed.passed)) passed.reads;
       none = none;
     })
 
--- what was read doesn't depend on what is left
-has_left : (r : Replaying) (rest : List (List ℕ)) (before here : List Logged) (records : List (List ℕ)) → HasRead r before here records
-    → HasRead (record { floor = r.floor; wal = r.wal; left = rest; gate = r.gate }) before here records
-has_left r rest before here records has = record { are = has.are; counted = has.counted; last = has.last; most = has.most; newest = has.newest; gate = has.gate }
-
 -- a record that isn't the next one is named at its gate
-pub strange_at : (first now : Replaying) (rest : List (List ℕ)) (body : List ℕ) (damage : Damage) (why : Why) → Passed first now → now.left ≡ body ∷ rest → damage ≡ record { file = now.wal.log.file; offset = now.gate; why = why }
-    → ((before here : List Logged) (records : List (List ℕ)) → HasRead (record { floor = now.floor; wal = now.wal; left = rest; gate = now.gate }) before here records → IsStrange why now.floor (before ++ here) body)
+pub strange_at : (first now : Replaying) (damage : Damage) → Passes first now → NextIsStrange damage now
     → (before here : List Logged) (records : List (List ℕ)) → HasRead first before here records → StandsStrange damage first.wal.log.file first.floor before (records ++ first.left)
-strange_at first now rest body damage why passed next is strange before here records has =
+strange_at first now damage passed next before here records has =
     let on = passed.reads.on before here records has in
     let floor = passed.reads.floor in
     let all = before ++ (here ++ on.more) in
     record {
-      before = records ++ passed.read;
+      before = records ++ passed.passed;
       state = all;
-      body = body;
-      others = rest;
-      parts = ap (λ (l : List (List ℕ)). records ++ l) (passed.reads.parts ∙ ap (λ (l : List (List ℕ)). passed.read ++ l) next) ∙ sym (append_assoc records passed.read (body ∷ rest));
-      lead = leads_of first.floor before (here ++ on.more) (records ++ passed.read) on.has.are (subst (λ (f : ℕ). AreCounted f all) floor on.has.counted);
-      strange = subst (λ (w : Why). IsStrange w first.floor all body) (sym (ap (λ (d : Damage). d.why) is))
-          (subst (λ (f : ℕ). IsStrange why f all body) floor (strange before (here ++ on.more) (records ++ passed.read) (has_left now rest before (here ++ on.more) (records ++ passed.read) on.has)));
-      file = ap (λ (d : Damage). d.file) is ∙ ap (λ (w : Segments). w.log.file) passed.reads.same;
-      gate = ap (λ (d : Damage). d.offset) is ∙ on.has.gate;
+      body = next.body;
+      others = next.rest;
+      parts = ap (λ (l : List (List ℕ)). records ++ l) (passed.reads.parts ∙ ap (λ (l : List (List ℕ)). passed.passed ++ l) next.parts) ∙ sym (append_assoc records passed.passed (next.body ∷ next.rest));
+      lead = leads_of first.floor before (here ++ on.more) (records ++ passed.passed) on.has.are (subst (λ (f : ℕ). AreCounted f all) floor on.has.counted);
+      strange = subst (λ (w : Why). IsStrange w first.floor all next.body) (sym (ap (λ (d : Damage). d.why) next.is))
+          (subst (λ (f : ℕ). IsStrange next.why f all next.body) floor (next.strange before (here ++ on.more) (records ++ passed.passed) on.has));
+      file = ap (λ (d : Damage). d.file) next.is ∙ ap (λ (w : Segments). w.log.file) passed.reads.same;
+      gate = ap (λ (d : Damage). d.offset) next.is ∙ on.has.gate;
     }
 
 -- ---- a segment to its end

@@ -1,13 +1,15 @@
 -- Segments that are read record by record.
-use Rattle.std.specs.Prelude.{◌≡◌, ℕ, ◌+◌, ◌≤◌, max, false, List, [], ◌∷◌, ◌++◌, length, map}
+use Rattle.std.specs.Prelude.{◌≡◌, ℕ, ◌+◌, ◌<◌, ◌≤◌, max, false, List, [], ◌∷◌, ◌++◌, length, map}
 use Rattle.std.specs.List.{AllByRecursion}
 use Rattle.shard_disk.specs.Crash.{Crashes, IsDurable}
 use Rattle.shard_disk.specs.Directory.{Directory}
+use Rattle.shard_disk.specs.declared.damage.Damage.{Damage}
+use Rattle.shard_disk.specs.declared.damage.Why.{Why}
 use Rattle.gate_log.specs.Calls.Read.{Reads as ReadsLog}
 use Rattle.gate_log.specs.Records.{spelled}
 use Rattle.point_model.specs.declared.entry.Entry.{Entry}
 use Rattle.wal_store.specs.declared.replay.Place.{Place}
-use Rattle.wal_store.specs.Replay.{AreCounted, AreRecords, HasSegments, Logged, joined, newest_of, past}
+use Rattle.wal_store.specs.Replay.{AreCounted, AreRecords, HasSegments, IsStrange, Logged, joined, newest_of, past}
 use Rattle.wal_store.specs.Segments.{Segments, SpellsRecord, last_number}
 
 -- The segments as far as they are read, the last of which is open; the records of that one that aren't read yet, and where the
@@ -53,6 +55,12 @@ pub record Reads (old new : Replaying) (read : List (List ℕ)) (entries : List 
   pub floor : new.floor ≡ old.floor
   pub same : new.wal ≡ record old.wal { newest_here = new.wal.newest_here; last = new.wal.last }
 
+-- Some records were read, none of which is past the floor, and the next one stands behind them.
+pub record Passes (old new : Replaying) : Type 0 where
+  pub passed : List (List ℕ)
+  pub reads : Reads old new passed []
+  pub gate : new.gate ≡ old.gate + length (spelled passed)
+
 -- The records up to that of this entry were read, which is past the floor as none before it. Its record stands at this place.
 pub record Gives (old new : Replaying) (place : Place) (entry : Entry) : Type 0 where
   pub passed : List (List ℕ)
@@ -73,6 +81,24 @@ pub record TakesAll (old new : Replaying) (entries entries' : List Entry) : Type
   pub reads : Reads old new old.left given
   pub none : new.left ≡ []
   pub behind : entries' ≡ entries ++ given
+
+-- The next record was read: it is of this entry, whose number is the next one where it is past the floor.
+pub record Follows (old new : Replaying) (number : ℕ) (entry : Entry) : Type 0 where
+  pub body : List ℕ
+  pub rest : List (List ℕ)
+  pub parts : old.left ≡ body ∷ rest
+  pub spells : SpellsRecord number entry body
+  pub next : old.floor < number → number ≡ old.wal.last + 1
+  pub is : new ≡ with_record (record { floor = old.floor; wal = old.wal; left = rest; gate = old.gate }) number (length body)
+
+-- The next record isn't one that may stand behind those that were read, and is named at its gate.
+pub record NextIsStrange (damage : Damage) (replay : Replaying) : Type 0 where
+  pub body : List ℕ
+  pub rest : List (List ℕ)
+  pub parts : replay.left ≡ body ∷ rest
+  pub why : Why
+  pub is : damage ≡ record { file = replay.wal.log.file; offset = replay.gate; why = why }
+  pub strange : (before here : List Logged) (records : List (List ℕ)) → HasRead replay before here records → IsStrange why replay.floor (before ++ here) body
 
 -- So far the segments are read: those before the open one whole, which have these entries, and of the open one records of these.
 -- A crash leaves each file as it reads.

@@ -14,8 +14,8 @@ use gate_log::{Log, LogFault};
 use point_model::Entry;
 use shard_disk::{Damage, Disk, Why};
 use std::alloc::Global;
+use std::collections::VecDeque;
 use std::marker::Model;
-use std::vec::IntoIter;
 use tsdb_types::Seed;
 
 /// Where a record stands: the number of its segment, and the place of its gate there.
@@ -37,23 +37,22 @@ pub struct Replay {
     seed: Seed,
     floor: u64,
     wal: Wal,
-    left: IntoIter<Vec<u8>>,
+    left: VecDeque<Vec<u8>>,
     gate: u64,
 }
 
 impl Model for Replay {
-    ghost use Rattle.std.specs.Vec.Iter.{into_iter_items};
     ghost use Rattle.gate_log.specs.Damage.{bodies};
     ghost use Rattle.wal_store.specs.Reading.{Replaying};
 
     ghost Value = { Replaying };
 
-    ghost view = { λ r. record { floor = r.floor; wal = r.wal; left = bodies (into_iter_items r.left); gate = r.gate } };
+    ghost view = { λ r. record { floor = r.floor; wal = r.wal; left = bodies r.left.items; gate = r.gate } };
 }
 
 impl Replay {
     ghost use Rattle.gate_log.specs.Calls.Read.{Reads as ReadsLog};
-    ghost use Rattle.wal_store.specs.Reading.{Ends, Gives, HasRead, Replaying, with_record};
+    ghost use Rattle.wal_store.specs.Reading.{Ends, Follows, Gives, HasRead, NextIsStrange, Passes, Replaying};
 
     /// Opens the first segment. Entries up to this number, which is at most 2^63 - 1, are passed over. The file is made durable
     /// before it answers.
@@ -86,15 +85,15 @@ impl Replay {
             seed,
             floor,
             wal,
-            left: records.into_iter(),
+            left: VecDeque::from(records),
             gate: 0,
         })
     }
 
     /// Opens the next segment, where the open one is read to its end. A refusal leaves the segments as they are. The file is made
     /// durable before it answers.
-        requires read { self.old.left ≡ [] }
     pub fn go_on<D: Disk>(&mut self, disk: &mut D, file: u32) -> Result<(), LogFault>
+        requires read { self.old.left ≡ [] }
         requires present { IsTrue D.tells → IsPresent (D.files disk.old) file }
 
         ensures ok { OnOk result ((self.new ≡ record { floor = self.old.floor; wal = with_segment self.old.wal self.new.wal.log; left = self.new.left; gate = 0 })
@@ -110,26 +109,26 @@ impl Replay {
         let (log, records) = Log::read(self.alloc, disk, file)?;
         self.wal.reserve()?;
         self.wal.push_segment(log);
-        self.left = records.into_iter();
+        self.left = VecDeque::from(records);
         self.gate = 0;
         Ok(())
     }
 
-    /// The next entry past the floor of the open segment, and where its record stands; `None` where there is none. After a refusal
-    /// it may only be dropped.
+    /// The next entry past the floor of the open segment, and where its record stands; `None` where there is none. A refusal loses no
+    /// entry: the next call goes on at the record that wasn't taken, and is refused again where that is damaged.
     pub fn next(&mut self) -> Result<Option<(Place, Entry)>, LogFault>
         ensures given { IfOk result (λ next. IfSome next (λ given. Gives self.old self.new given.0 given.1)) }
         ensures over { IfOk result (λ next. IfNone next (Ends self.old self.new)) }
+        ensures refused { OnErr result (Passes self.old self.new) }
         ensures strange { (damage : Damage) → result ≡ Err (LogFault.Damaged damage) → (before here : List Logged) (records : List (List ℕ)) → HasRead self.old before here records
             → StandsStrange damage self.old.wal.log.file self.old.floor before (records ++ self.old.left) }
         ensures no_fault { IsErrOf result LogFault.Fault → ⊥ }
     {
         for _ in 0..u64::MAX {
-            let Some(body) = self.left.next() else {
+            let place = self.place();
+            let Some((number, entry)) = self.follow()? else {
                 return Ok(None);
             };
-            let place = self.place();
-            let (number, entry) = self.follow(&body)?;
             if number > self.floor {
                 return Ok(Some((place, entry)));
             }
@@ -167,14 +166,32 @@ impl Replay {
         })
     }
 
-    /// The number and the entry of the next record, of which this is the body.
-    fn follow(&mut self, body: &[u8]) -> Result<(u64, Entry), LogFault>
+    /// Takes the next record, where there is one: its number and its entry. A refusal leaves it where it stands.
+    fn follow(&mut self) -> Result<Option<(u64, Entry)>, LogFault>
+        ensures follows { IfOk result (λ read. IfSome read (λ taken. Follows self.old self.new taken.0 taken.1)) }
+        ensures over { IfOk result (λ read. IfNone read ((self.old.left ≡ []) × (self.new ≡ self.old))) }
+        ensures refused { OnErr result (self.new ≡ self.old) }
+        ensures strange { (damage : Damage) → result ≡ Err (LogFault.Damaged damage) → NextIsStrange damage self.old }
+        ensures no_fault { IsErrOf result LogFault.Fault → ⊥ }
+    {
+        let Some(body) = self.left.front() else {
+            return Ok(None);
+        };
+        let (number, entry, gate) = self.read(body)?;
+        let _ = self.left.pop_front();
+        self.gate = gate;
+        self.wal.pass(number);
+        Ok(Some((number, entry)))
+    }
+
+    /// The number and the entry of the next record, of which this is the body, and the gate behind it.
+    fn read(&self, body: &[u8]) -> Result<(u64, Entry, u64), LogFault>
         ensures spells { IfOk result (λ read. SpellsRecord read.0 read.1 body.now) }
-        ensures follows { IfOk result (λ read. self.new ≡ with_record self.old read.0 (length body.now)) }
-        ensures next { IfOk result (λ read. self.old.floor < read.0 → read.0 ≡ self.old.wal.last + 1) }
+        ensures gate { IfOk result (λ read. read.2 ≡ self.now.gate + (9 + length body.now)) }
+        ensures next { IfOk result (λ read. self.now.floor < read.0 → read.0 ≡ self.now.wal.last + 1) }
         ensures strange { (damage : Damage) → result ≡ Err (LogFault.Damaged damage)
-            → (why : Why) × (damage ≡ record { file = self.old.wal.log.file; offset = self.old.gate; why = why })
-            × ((before here : List Logged) (records : List (List ℕ)) → HasRead self.old before here records → IsStrange why self.old.floor (before ++ here) body.now) }
+            → (why : Why) × (damage ≡ record { file = self.now.wal.log.file; offset = self.now.gate; why = why })
+            × ((before here : List Logged) (records : List (List ℕ)) → HasRead self.now before here records → IsStrange why self.now.floor (before ++ here) body.now) }
         ensures no_fault { IsErrOf result LogFault.Fault → ⊥ }
     {
         let Some((number, entry)) = take_record(self.alloc, self.seed, body)? else {
@@ -187,8 +204,6 @@ impl Replay {
         let Some(gate) = self.gate.checked_add(9 + body.len() as u64) else {
             return Err(LogFault::Memory);
         };
-        self.gate = gate;
-        self.wal.pass(number);
-        Ok((number, entry))
+        Ok((number, entry, gate))
     }
 }
