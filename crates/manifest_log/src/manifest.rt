@@ -49,9 +49,10 @@ impl Manifest {
         }
     }
 
-    /// A manifest without an edit, where `read` answers `None`: file 0 as it is, or made where there is none. After a refusal
-    /// another call can go on. After a fault in making file 0 its number may be passed over: then only another opening of the
-    /// disk can make it, and a call here answers want of memory and leaves no file that it made.
+    /// A manifest without an edit, where `read` answers `None`: file 0 as it is, or made where there is none. After want of memory
+    /// another call can go on. A fault in making file 0 may pass its number over: then only another opening of the disk can make
+    /// it, and no call is to follow in this one. It would make a file of another number, remove it and answer want of memory or a
+    /// fault; a crash or a failed removal may leave that file alone, and a directory that no opening reads.
     pub fn begin<D: Disk>(alloc: Global, disk: &mut D) -> Result<Manifest, LogFault>
         requires fresh { IsTrue D.tells → IsFresh (D.files disk.old) }
         requires unread { HasNoReader (D.handed_out disk.old) }
