@@ -1,3 +1,6 @@
+mod FillLemmas
 mod FitLemmas
 mod KindLemmas
 mod OpenedLemmas
+mod PlaceLemmas
+mod WholeLemmas

@@ -9,7 +9,7 @@ use gate_log::LogFault;
 use shard_disk::Disk;
 
 /// Removes each of these files that isn't one to be kept.
-pub fn sweep<D: Disk>(disk: &mut D, numbers: &[u32], keep: &[u64]) -> Result<(), LogFault>
+pub(crate) fn sweep<D: Disk>(disk: &mut D, numbers: &[u32], keep: &[u64]) -> Result<(), LogFault>
     requires unread { HasNoReader (D.handed_out disk.old) }
     ensures removes { Removes D.Disk keep.now disk.old disk.new }
     ensures undamaged { (damage : Damage) → result ≡ Err (LogFault.Damaged damage) → ⊥ }
