@@ -7,7 +7,7 @@ use Rattle.shard_disk.specs.declared.trouble.Trouble.{Trouble}
 use Rattle.gate_log.specs.declared.fault.LogFault.{LogFault}
 use Rattle.store_trait.specs.Told.{Limits}
 use Rattle.shard_calls.specs.Told.{limits_of}
-use Rattle.shard_opening.specs.Opening.{Answers, Begins, HasCause}
+use Rattle.shard_opening.specs.Opening.{Answers, Begins, HasCause, KeepsNamed}
 use Rattle.shard_recover.specs.Opening.{LeavesState}
 use Rattle.shard_recover.proofs.StandingLemmas.{one_state, sound_stands, sound_undamaged}
 use Rattle.shard_steps.specs.Shards.{state_of}
@@ -17,7 +17,7 @@ use Rattle.engine_session.specs.Serving.{AreServed, ClientSession, Serves}
 use Rattle.engine_session.specs.Shells.{OpensNone, ServesDirectory, limits_with}
 
 module _ {D R W : Type 0} (g : Ghosts D R W) (settings : Settings) (disk : D) (engine : Shard D) (are : engine.settings ≡ settings) (health : g.health engine.logs.disk ≡ g.health disk)
-    (stood : Answers g disk (Ok engine)) (begins : Begins g disk engine) (sessions : List ClientSession) (disk' : D) (number : ℕ) (closed : Result (Unit {0}) Trouble) (serves : Serves g sessions engine disk' number closed) where
+    (answers : Answers g disk (Ok engine)) (begins : Begins g disk engine) (sessions : List ClientSession) (disk' : D) (number : ℕ) (closed : Result (Unit {0}) Trouble) (serves : Serves g sessions engine disk' number closed) where
   limits_are : limits_of (state_of engine) engine.logs.series.keys engine ≡ limits_with settings (state_of engine) engine.logs.series.keys
   limits_are = ap (λ (s : Settings). limits_with s (state_of engine) engine.logs.series.keys) are
 
@@ -31,10 +31,11 @@ module _ {D R W : Type 0} (g : Ghosts D R W) (settings : Settings) (disk : D) (e
     served = subst (λ (l : Limits). AreServed sessions (state_of engine) l serves.held serves.history (g.health disk) serves.middle) limits_are
         (subst (λ (h : Health). AreServed sessions (state_of engine) (limits_of (state_of engine) engine.logs.series.keys engine) serves.held serves.history h serves.middle) health serves.served);
     counted = serves.counted;
-    stood = stood;
+    stood = λ told. let a = answers told in a.stood;
     is = λ told state sound.
         let stands = sound_stands g disk state sound in
-        let same = one_state (g.files disk) (state_of engine) state engine.logs.series.keys stands.0 (stood told) stands.1 in
+        let a = answers told in
+        let same = one_state (g.files disk) (state_of engine) state engine.logs.series.keys stands.0 a.stood stands.1 in
         same.0;
     lasts = λ told sound. serves.lasts told (g.crashes disk).moment (record { made = []; are = refl; refused = []; doubt = None; runs = begins told (state_of engine) sound });
     closing = serves.closing;
@@ -42,8 +43,8 @@ module _ {D R W : Type 0} (g : Ghosts D R W) (settings : Settings) (disk : D) (e
 
 -- what a refused opening tells
 pub opens_none : {D R W : Type 0} (g : Ghosts D R W) (disk : D) (refused : D × LogFault) → HasCause {D = D} (Err refused) (g.health disk) g.health → LeavesState g disk refused.0 → Answers g disk (Err refused)
-    → (g.handed_out refused.0).readers ≡ (g.handed_out disk).readers → OpensNone g disk refused.0 refused.1
-opens_none {D} {R} {W} g disk refused cause leaves answers unread = record {
+    → KeepsNamed g disk refused.0 → OpensNone g disk refused.0 refused.1
+opens_none {D} {R} {W} g disk refused cause leaves answers kept = record {
   ages = cause.0;
   fault = cause.1;
   quiet = cause.2;
@@ -51,5 +52,5 @@ opens_none {D} {R} {W} g disk refused cause leaves answers unread = record {
   place = λ told. let refuses = answers told in refuses.place;
   left = λ told. let refuses = answers told in refuses.left;
   crash = leaves;
-  unread = unread;
+  kept = kept;
 }

@@ -18,7 +18,7 @@ use Rattle.shard_state.specs.Opening.{IsSoundAtOpening, IsSoundThroughout}
 use Rattle.shard_recover.specs.Damage.{IsFirstDamage}
 use Rattle.shard_recover.specs.Standing.{Stood}
 use Rattle.shard_steps.specs.declared.settings.Settings.{Settings}
-use Rattle.shard_opening.specs.Opening.{IsLeft}
+use Rattle.shard_opening.specs.Opening.{IsLeft, KeepsNamed}
 use Rattle.engine_session.specs.Durable.{Lasts}
 use Rattle.engine_session.specs.Ends.{EndsBy}
 use Rattle.engine_session.specs.Serving.{AreServed, ClientSession}
@@ -30,8 +30,8 @@ abbrev pub limits_with : Settings → State → List (List ℕ) → Limits
 limits_with settings start series = record { cached = length start.points; most_cached = settings.cache_points; series = series; most_series = settings.series }
 
 -- The directory wasn't opened. A fault came where the disk failed, and there alone; none that is sound was found damaged; damage is the
--- first that is wrong, and a directory that is damaged was left as it was found; what a crash leaves stands for what it did before; and
--- no reader is out more than before.
+-- first that is wrong, and a directory that is damaged was left as it was found; what a crash leaves stands for what it did before; files
+-- that are named were kept, and no reader is out more than before.
 pub record OpensNone {D R W : Type 0} (g : Ghosts D R W) (disk disk' : D) (why : LogFault) : Type 0 where
   pub ages : Ages (g.health disk) (g.health disk')
   pub fault : why ≡ Fault → Failed (g.health disk) (g.health disk')
@@ -40,7 +40,7 @@ pub record OpensNone {D R W : Type 0} (g : Ghosts D R W) (disk disk' : D) (why :
   pub place : IsTrue g.tells → (damage : Damage) → why ≡ Damaged damage → IsFirstDamage damage (g.files disk)
   pub left : IsTrue g.tells → (damage : Damage) → IsFirstDamage damage (g.files disk) → IsLeft g disk disk'
   pub crash : IsTrue g.tells → (state : State) → IsSoundThroughout g disk state → LeavesOnly (λ (c : Directory). Stands c state) (g.crashes disk) (g.crashes disk')
-  pub unread : (g.handed_out disk').readers ≡ (g.handed_out disk).readers
+  pub kept : KeepsNamed g disk disk'
 
 -- The directory was opened, clients were served over it, and it was closed. One history explains what all of them were told. It begins
 -- with the state and the series for which the files stood; and where the disk was sound it was left with the history, at every moment

@@ -3,4 +3,5 @@ mod FitLemmas
 mod KindLemmas
 mod OpenedLemmas
 mod PlaceLemmas
+mod ReadLemmas
 mod WholeLemmas

@@ -28,7 +28,7 @@ use Rattle.shard_state.proofs.Images.{image_now}
 use Rattle.shard_state.proofs.Leaving.{leaves_still}
 use Rattle.shard_state.proofs.Standing.{image_stands}
 use Rattle.shard_recover.specs.Damage.{IsFirstDamage}
-use Rattle.shard_recover.specs.Opening.{LeavesState, Removes, logs_on}
+use Rattle.shard_recover.specs.Opening.{HasOnly, LeavesState, Removes, logs_on}
 use Rattle.shard_recover.specs.Standing.{Stood}
 use Rattle.shard_recover.specs.declared.parts.Parts.{Parts}
 use Rattle.shard_recover.proofs.OpeningLemmas.{both}
@@ -37,19 +37,20 @@ use Rattle.shard_recover.proofs.StandingLemmas.{one_state, sound_stands, undamag
 use Rattle.shard_recover.proofs.SweepLemmas.{removes_same, removes_then}
 use Rattle.shard_steps.specs.Shards.{state_of}
 use Rattle.shard_steps.specs.declared.shard.Shard.{Shard}
-use Rattle.shard_opening.specs.Opening.{AnswersLogs, Begins, IsLeft, KeepsNamed, OpensLogs, Refuses, Settles}
+use Rattle.shard_opening.specs.Opening.{AnswersLogs, Begins, IsLeft, KeepsNamed, OpensLogs, Refuses, Settles, StandsOn}
 use Rattle.shard_opening.specs.declared.filling.Filling.{Filling}
 
 -- ---- the engine
 
-module _ {D R W : Type 0} (g : Ghosts D R W) (disk : D) (shard : Shard D) (stood : IsTrue g.tells → Stood (g.files disk) (state_of shard) shard.logs.series.keys) (logs : OpensLogs g disk shard.logs) where
+module _ {D R W : Type 0} (g : Ghosts D R W) (disk : D) (shard : Shard D) (answers : IsTrue g.tells → StandsOn g disk shard.logs.disk (state_of shard) shard.logs.series.keys) (logs : OpensLogs g disk shard.logs) where
   -- a directory stands for one state
   pub begins : LeavesState g disk shard.logs.disk → Begins g disk shard
   begins leaves told state sound =
       let o = logs told state sound.sound in
       let run = subst (λ (s : State). LeavesOnly (λ (c : Directory). Stands c s) (g.crashes disk) (g.crashes shard.logs.disk)) o.is (leaves told state sound) in
       let stands = sound_stands g disk state sound.sound in
-      let same = one_state (g.files disk) (state_of shard) state shard.logs.series.keys stands.0 (stood told) stands.1 in
+      let a = answers told in
+      let same = one_state (g.files disk) (state_of shard) state shard.logs.series.keys stands.0 a.stood stands.1 in
       record {
         logs = subst (λ (s : State). Ran g shard.logs s (g.crashes disk).moment [] [] None) (sym o.is) (ran_begins g disk shard.logs o.books run o.holds);
         points = ap (λ (s : State). s.points) same.0;
@@ -60,7 +61,8 @@ module _ {D R W : Type 0} (g : Ghosts D R W) (disk : D) (shard : Shard D) (stood
   settles none told state sound =
       let o = logs told state sound in
       let stands = sound_stands g disk state sound in
-      let same = one_state (g.files disk) (state_of shard) state shard.logs.series.keys stands.0 (stood told) stands.1 in
+      let a = answers told in
+      let same = one_state (g.files disk) (state_of shard) state shard.logs.series.keys stands.0 a.stood stands.1 in
       let run = leaves_still (λ (c : Directory). Stands c (state_in o.books)) (g.crashes shard.logs.disk) none
       (λ c now. image_stands o.books [] o.holds.keeps.sound tt c (image_now (g.files shard.logs.disk) (g.crashes shard.logs.disk) shard.logs.manifest.log shard.logs.series shard.logs.wal o.books None o.holds.keeps c now)) in
       record {
@@ -81,14 +83,22 @@ module _ {D R W : Type 0} (g : Ghosts D R W) (disk : D) (filling : Filling) wher
   -- what was read was joined
   pub answers_joined : (alloc : Global) (parts : Parts) (r : Result (Logs D) (D × LogFault)) → IfOk r (λ logs. logs ≡ logs_on alloc logs.disk parts)
       → IfErr r (λ refused. (damage : Damage) → refused.1 ≡ Damaged damage → ⊥) → (IsTrue g.tells → Stood (g.files disk) (record { points = filling.live.points; number = parts.wal.last }) parts.series.keys)
-      → AnswersLogs g disk filling r
-  answers_joined alloc parts (Ok logs) are never stood = λ told. subst (λ l. Stood (g.files disk) (record { points = filling.live.points; number = l.number }) l.series.keys) (sym are) (stood told)
-  answers_joined alloc parts (Err refused) are never stood = λ told. refuses_none refused.0 refused.1 (record { points = filling.live.points; number = parts.wal.last }) parts.series.keys never (stood told)
+      → (IsTrue g.tells → HasFile (g.files disk) manifest (IsManifest parts.named)) → IfOk r (λ logs. IsTrue g.tells → HasOnly (0 ∷ names parts.named) (g.files logs.disk)) → AnswersLogs g disk filling r
+  answers_joined alloc parts (Ok logs) are never stood named only = λ told. record {
+    stood = subst (λ l. Stood (g.files disk) (record { points = filling.live.points; number = l.number }) l.series.keys) (sym are) (stood told);
+    only = λ n is.
+        let same : parts.named ≡ n = both (IsManifest parts.named) (IsManifest n) (g.files disk) manifest (named told) is (λ bytes x y. one_manifest bytes parts.named n x y) in
+        subst (λ (m : Named). HasOnly (0 ∷ names m) (g.files logs.disk)) same (only told);
+  }
+  answers_joined alloc parts (Err refused) are never stood named only = λ told. refuses_none refused.0 refused.1 (record { points = filling.live.points; number = parts.wal.last }) parts.series.keys never (stood told)
 
   -- nothing was named, and the first files were made
   pub answers_new : (r : Result (Logs D) (D × LogFault)) → IfOk r (λ logs. (logs.series.keys ≡ []) × (logs.number ≡ 0))
       → IfErr r (λ refused. IsTrue g.tells → (damage : Damage) → refused.1 ≡ Damaged damage → ⊥) → (IsTrue g.tells → IsFresh (g.files disk)) → filling.live.points ≡ no_points → AnswersLogs g disk filling r
-  answers_new (Ok logs) first never fresh none = λ told. inl (fresh told, (λ i. record { points = none i; number = first.1 i }), first.0)
+  answers_new (Ok logs) first never fresh none = λ told. record {
+    stood = inl (fresh told, (λ i. record { points = none i; number = first.1 i }), first.0);
+    only = λ n is. absurd (fresh_unnamed (g.files disk) n (fresh told) is);
+  }
   answers_new (Err refused) first never fresh none = λ told. refuses_none refused.0 refused.1 nothing [] (never told) (inl (fresh told, refl, refl))
 
   -- it was read, and refused

@@ -11,7 +11,7 @@ use Rattle.gate_log.proofs.Unique.{found_log}
 use Rattle.point_model.specs.Histories.{after}
 use Rattle.point_model.specs.Points.{Points, no_points}
 use Rattle.point_model.specs.declared.entry.Entry.{Entry}
-use Rattle.wal_store.specs.Reading.{AreRead, HasRead, Replaying, entries_past}
+use Rattle.wal_store.specs.Reading.{AreRead, GoesOn, HasRead, Replaying, entries_past}
 use Rattle.wal_store.specs.Replay.{AreRecords, Logged, joined, past}
 use Rattle.wal_store.specs.Segments.{Segments, SpellsRecord}
 use Rattle.wal_store.specs.declared.replay.Place.{Place}
@@ -70,8 +70,10 @@ module _ (tells : Type 0) (told : tells) (series : List (List ℕ)) (floor : ℕ
   abbrev passed : List (List ℕ)
   passed = r.gives.passed
 
+  one : GoesOn first r.before before [] are.records r.read r.given
   one = r.reads.on before [] are.records are.has
 
+  two : GoesOn r.before r.behind before ([] ++ one.more) (are.records ++ r.read) (passed ++ r.gives.body ∷ []) (r.entry ∷ [])
   two = r.gives.reads.on before ([] ++ one.more) (are.records ++ r.read) one.has
 
   abbrev all : List Logged

@@ -1,5 +1,5 @@
 -- Segments that are read into memory, one behind the other.
-use Rattle.std.proofs.Common.{◌≡◌, ⊎_elim, inl, inr, ℕ, ◌≤◌, List, [], ◌∷◌, ◌++◌, refl, sym, ap, ◌∙◌, subst, append_assoc, None, Some}
+use Rattle.std.proofs.Common.{◌≡◌, ◌⊎◌, ⊎_elim, inl, inr, ℕ, ◌≤◌, List, [], ◌∷◌, ◌++◌, refl, sym, ap, ◌∙◌, subst, append_assoc, None, Some}
 use Rattle.std.proofs.lemmas.List.{append-nil}
 use Rattle.shard_disk.specs.Crash.{Crashes, Leaves, Same}
 use Rattle.shard_disk.specs.Directory.{Directory, HasFile}

@@ -1,5 +1,5 @@
 -- What is an engine that was opened?
-use Rattle.std.specs.Prelude.{◌≡◌, ◌≢◌, [], ◌∷◌, None, Result, Ok, Err, IsTrue}
+use Rattle.std.specs.Prelude.{◌≡◌, ◌≢◌, ℕ, List, [], ◌∷◌, None, Result, Ok, Err, IsTrue}
 use Rattle.shard_disk.specs.Crash.{Leaves, Same}
 use Rattle.shard_disk.specs.Directory.{HasFile}
 use Rattle.shard_disk.specs.Health.{Health, Ages, Failed}
@@ -10,7 +10,7 @@ use Rattle.gate_log.specs.declared.fault.LogFault.TheVariants.{Damaged, Fault}
 use Rattle.point_model.specs.Histories.{State}
 use Rattle.shard_state.specs.Opening.{IsSoundAtOpening, IsSoundThroughout}
 use Rattle.shard_recover.specs.Damage.{IsFirstDamage}
-use Rattle.shard_recover.specs.Opening.{Removes}
+use Rattle.shard_recover.specs.Opening.{HasOnly, Removes}
 use Rattle.shard_recover.specs.Opening as recover
 use Rattle.manifest_log.specs.declared.directory.Directory.{Directory as Named}
 use Rattle.manifest_log.specs.Edits.{names}
@@ -53,9 +53,14 @@ pub record Refuses {D R W : Type 0} (g : Ghosts D R W) (old new : D) (why : LogF
   pub place : (damage : Damage) → why ≡ Damaged damage → IsFirstDamage damage (g.files old)
   pub left : (damage : Damage) → IsFirstDamage damage (g.files old) → IsLeft g old new
 
+-- What was opened: the files stood for this state and these series. Where a manifest names files, no others are there any more.
+pub record StandsOn {D R W : Type 0} (g : Ghosts D R W) (old new : D) (state : State) (series : List (List ℕ)) : Type 0 where
+  pub stood : Stood (g.files old) state series
+  pub only : (n : Named) → HasFile (g.files old) manifest (IsManifest n) → HasOnly (0 ∷ names n) (g.files new)
+
 -- What is answered of a disk that tells: the engine has the state and the series for which the files stood, or they are refused.
 abbrev pub Answers : {D R W : Type 0} → Ghosts D R W → D → Result (Shard D) (D × LogFault) → Type 0
-Answers g disk (Ok shard) = IsTrue g.tells → Stood (g.files disk) (state_of shard) shard.logs.series.keys
+Answers g disk (Ok shard) = IsTrue g.tells → StandsOn g disk shard.logs.disk (state_of shard) shard.logs.series.keys
 Answers g disk (Err refused) = IsTrue g.tells → Refuses g disk refused.0 refused.1
 
 -- Whatever is answered: no reader is out more than before; and where a manifest names files, no other files were removed, and these
@@ -66,7 +71,7 @@ pub record KeepsNamed {D R W : Type 0} (g : Ghosts D R W) (old new : D) : Type 0
 
 -- the same of the logs, with the points that their entries left in memory
 abbrev pub AnswersLogs : {D R W : Type 0} → Ghosts D R W → D → Filling → Result (Logs D) (D × LogFault) → Type 0
-AnswersLogs g disk filling (Ok logs) = IsTrue g.tells → Stood (g.files disk) (record { points = filling.live.points; number = logs.number }) logs.series.keys
+AnswersLogs g disk filling (Ok logs) = IsTrue g.tells → StandsOn g disk logs.disk (record { points = filling.live.points; number = logs.number }) logs.series.keys
 AnswersLogs g disk filling (Err refused) = IsTrue g.tells → Refuses g disk refused.0 refused.1
 
 -- Where the disk is sound as it is opened, the logs stand for its state.

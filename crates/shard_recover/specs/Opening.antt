@@ -4,7 +4,7 @@ use Rattle.std.specs.List.{list_any}
 use Rattle.std.specs.FinMap.{get, keys}
 use Rattle.std.specs.declared.alloc.Global.{Global}
 use Rattle.shard_disk.specs.Crash.{Crashes, Leaves, Same}
-use Rattle.shard_disk.specs.Directory.{Directory}
+use Rattle.shard_disk.specs.Directory.{Directory, IsPresent}
 use Rattle.shard_disk.specs.Health.{Health, Ages, Failed}
 use Rattle.shard_disk.specs.declared.disk.Disk.{Ghosts}
 use Rattle.gate_log.specs.declared.fault.LogFault.{LogFault}
@@ -83,6 +83,15 @@ IsAmong numbers number = IsTrue (list_any (λ n. nat_eq n number) numbers)
 -- each of these files is as it was
 abbrev pub Spares : List ℕ → Directory → Directory → Type 0
 Spares keep old new = (number : ℕ) → IsAmong keep number → get new number ≡ get old number
+
+-- each file that is there is one of these
+abbrev pub HasOnly : List ℕ → Directory → Type 0
+HasOnly keep files = (number : ℕ) → IsPresent files number → IsAmong keep number
+
+-- no file appeared, and the one of this number is there only where it is one of these
+pub record LeavesOne (keep : List ℕ) (number : ℕ) (old new : Directory) : Type 0 where
+  pub others : (n : ℕ) → IsPresent new n → IsPresent old n
+  pub here : IsPresent new number → IsAmong keep number
 
 -- Files were removed, and none of these was: as the disk reads, whatever crash comes, and each that was adopted is so.
 pub record Removes {D R W : Type 0} (g : Ghosts D R W) (keep : List ℕ) (old new : D) : Type 0 where

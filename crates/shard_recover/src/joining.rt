@@ -1,5 +1,5 @@
 // From what was read of a directory to the logs of an engine.
-ghost use Rattle.std.specs.Prelude.{◌≡◌, ◌∷◌, Err, IsTrue, IfErr, IfOk};
+ghost use Rattle.std.specs.Prelude.{◌≡◌, ◌∷◌, Err, IsTrue, IfErr, IfOk, OnOk};
 ghost use Rattle.shard_disk.specs.Directory.{Directory as Files};
 ghost use Rattle.shard_disk.specs.declared.damage.Damage.{Damage};
 ghost use Rattle.gate_log.specs.Faults.{LogHasCause};
@@ -10,7 +10,7 @@ ghost use Rattle.shard_state.specs.Crashes.{LeavesOnly};
 ghost use Rattle.shard_state.specs.Creating.{disk_of};
 ghost use Rattle.shard_state.specs.Engine.{IsReady};
 ghost use Rattle.shard_state.specs.Meaning.{Stands};
-ghost use Rattle.shard_recover.specs.Opening.{HasOpeningCause, Opens, OpensParts, ReadyParts, Removes, logs_on};
+ghost use Rattle.shard_recover.specs.Opening.{HasOnly, HasOpeningCause, Opens, OpensParts, ReadyParts, Removes, logs_on};
 
 use crate::parts::Parts;
 use crate::present::list;
@@ -35,6 +35,7 @@ pub fn join<D: Disk>(alloc: Global, disk: D, parts: Parts) -> Result<Logs<D>, (D
         → LeavesOnly (λ (c : Files). Stands c state) (D.crashes disk) (D.crashes (disk_of result)) }
     ensures undamaged { IfErr result (λ refused. (damage : Damage) → refused.1 ≡ LogFault.Damaged damage → ⊥) }
     ensures removes { Removes D.Disk (0 ∷ names parts.named) disk (disk_of result) }
+    ensures gone { IfOk result (λ logs. IsTrue D.tells → HasOnly (0 ∷ names parts.named) (D.files logs.disk)) }
     ensures fault { HasOpeningCause result (D.health disk) D.health }
 {
     let mut disk = disk;
@@ -57,6 +58,7 @@ pub fn join<D: Disk>(alloc: Global, disk: D, parts: Parts) -> Result<Logs<D>, (D
 fn remove_unnamed<D: Disk>(alloc: Global, disk: &mut D, named: &Directory) -> Result<(), LogFault>
     requires unread { HasNoReader (D.handed_out disk.old) }
     ensures removes { Removes D.Disk (0 ∷ names named.now) disk.old disk.new }
+    ensures gone { OnOk result (IsTrue D.tells → HasOnly (0 ∷ names named.now) (D.files disk.new)) }
     ensures undamaged { (damage : Damage) → result ≡ Err (LogFault.Damaged damage) → ⊥ }
     ensures fault { LogHasCause result (D.health disk.old) (D.health disk.new) }
 {

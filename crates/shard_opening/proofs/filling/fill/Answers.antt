@@ -1,5 +1,5 @@
 -- One entry more, or none.
-use Rattle.std.proofs.Common.{rules, ◌≡◌, ◌++◌, ◌∷◌, [], Err, ap}
+use Rattle.std.proofs.Common.{rules, ◌≡◌, ◌++◌, ◌∷◌, [], Err, refl, ap}
 use Rattle.std.proofs.lemmas.Result.{err_from_is_err_and}
 use Rattle.gate_log.specs.declared.fault.LogFault.{LogFault}
 use Rattle.gate_log.specs.declared.fault.LogFault.TheVariants.{Damaged}
@@ -13,13 +13,16 @@ loop-init c = ([], fills_none c.args.series.now.keys c.args.replay.now c.args.fi
 
 pub returns-in_err-place-clause-strange : goal.returns-in_err-place-clause-strange
 returns-in_err-place-clause-strange c = λ damage is.
-    let p = err_from_is_err_and c.from_residual-in_err-place.result c.from_residual-in_err-place.ensures.1 in
+    let p = err_from_is_err_and c.from_residual.result c.from_residual.ensures.1 in
     let told : c.in_err-place.field-0.0 ≡ Damaged damage = cc (p.1, p.2, is) in
     let f = c.loop.invariant in
     strange_back c.args.replay.now c.loop.replay damage f.0 f.1.given f.1.reads (c.in_err-place.ensures.strange damage (ap (λ (e : LogFault). Err e) told))
 
 pub returns-in_err-meet-clause-strange : goal.returns-in_err-meet-clause-strange
-returns-in_err-meet-clause-strange c = ?
+returns-in_err-meet-clause-strange c = λ damage is.
+    let p = err_from_is_err_and c.from_residual-in_err-meet.result c.from_residual-in_err-meet.ensures.1 in
+    let told : c.in_err-meet.field-0.0 ≡ Damaged damage = cc (p.1, p.2, is) in
+    absurd (cc (told, c.in_err-meet.ensures.memory c.in_err-meet.field-0.0 refl))
 
 pub returns-in_default-clause-filled : goal.returns-in_default-clause-filled
 returns-in_default-clause-filled c =

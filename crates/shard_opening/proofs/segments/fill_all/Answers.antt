@@ -7,6 +7,7 @@ use Rattle.gate_log.specs.declared.fault.LogFault.{LogFault}
 use Rattle.gate_log.specs.declared.fault.LogFault.TheVariants.{Damaged}
 use Rattle.shard_disk.specs.Directory.{Directory}
 use Rattle.wal_store.specs.Replay.{IsWrong}
+use Rattle.wal_store.specs.Segments.{Segments}
 use Rattle.wal_store.proofs.SegmentLemmas.{cut_behind, more_behind, same_then, wrong_in_first, wrong_in_next}
 use Rattle.shard_recover.specs.Damage.{IsWrongLog}
 use Rattle.shard_opening.specs.Filling.{FillsAll}
@@ -15,7 +16,7 @@ use Rattle.shard_opening.proofs.segments.fill_all.Goals as goal
 
 pub returns-in_err-replay-clause-damaged : goal.returns-in_err-replay-clause-damaged
 returns-in_err-replay-clause-damaged g c = λ damage is told.
-    let p = err_from_is_err_and c.from_residual-in_err-replay.result c.from_residual-in_err-replay.ensures.1 in
+    let p = err_from_is_err_and c.from_residual.result c.from_residual.ensures.1 in
     let same : c.in_err-replay.field-0.0 ≡ Damaged damage = cc (p.1, p.2, is) in
     subst (IsWrongLog damage c.args.floor (g.D.Disk.files c.args.disk.now)) (sym c.cut_first-first.ensures)
     (bad_first damage c.args.floor c.cut_first-first.result.0 c.cut_first-first.result.1.now (g.D.Disk.files c.args.disk.now) (c.in_err-replay.ensures.damaged damage (ap (λ (e : LogFault). Err e) same) told))
@@ -103,3 +104,16 @@ loop-file-preserved g c =
       handed_out = c.open_next.ensures.handed_out ∙ c.loop-file.invariant.handed_out;
       health = c.in_ok-open_next.ensures.fault.quiet (λ e. cc e) ∙ c.loop-file.invariant.health;
     }
+
+pub returns-clause-filled : goal.returns-clause-filled
+returns-clause-filled g c =
+    let tells = IsTrue g.D.Disk.tells in
+    let others = c.cut_first-first.result.1.now in
+    let files = g.D.Disk.files c.loop-file.disk in
+    let crashes = g.D.Disk.crashes c.args.disk.now in
+    let crashes' = g.D.Disk.crashes c.loop-file.disk in
+    let all = c.loop-file.invariant.all in
+    subst (λ (w : Segments). FillsAll tells c.args.series.now.keys c.args.floor c.args.segments.now w c.loop-file.filling files crashes crashes') (sym c.into_wal.ensures)
+    (subst (λ (s : List ℕ). FillsAll tells c.args.series.now.keys c.args.floor s c.loop-file.replay.wal c.loop-file.filling files crashes crashes')
+    (ap (λ (l : List ℕ). c.cut_first-first.result.0 ∷ l) (take_all c.loop-file.file-index others c.loop-file-test.false) ∙ sym c.cut_first-first.ensures)
+    (fills_all tells c.args.series.now.keys c.args.floor (c.cut_first-first.result.0 ∷ take c.loop-file.file-index others) c.loop-file.replay c.loop-file.filling files crashes crashes' all))

@@ -4,7 +4,7 @@ use Rattle.manifest_log.specs.Edits.{names}
 use Rattle.shard_state.specs.Crashes.{LeavesOnly}
 use Rattle.shard_state.specs.Engine.{IsReady}
 use Rattle.shard_state.specs.Meaning.{Stands}
-use Rattle.shard_recover.specs.Opening.{Opens, Removes}
+use Rattle.shard_recover.specs.Opening.{HasOnly, Opens, Removes}
 use Rattle.shard_recover.proofs.SparedLemmas.{joined, leaves_spared, opens_spared, ready_spared}
 use Rattle.shard_recover.proofs.joining.join.Goals as goal
 
@@ -29,3 +29,6 @@ returns-in-Err-clause-crash g c = λ told state opens.
 
 pub returns-in-Ok-clause-removes : goal.returns-in-Ok-clause-removes
 returns-in-Ok-clause-removes g c = subst (λ l. Removes g.D.Disk (0 ∷ names c.args.parts.named) c.args.disk l.disk) (sym c.new.ensures) c.remove_unnamed.ensures.removes
+
+pub returns-in-Ok-clause-gone : goal.returns-in-Ok-clause-gone
+returns-in-Ok-clause-gone g c = λ told. subst (λ l. HasOnly (0 ∷ names c.args.parts.named) (g.D.Disk.files l.disk)) (sym c.new.ensures) (c.in-Ok.ensures.gone told)
