@@ -6,7 +6,6 @@ use Rattle.shard_disk.specs.declared.damage.Why.TheVariants.{Body}
 use Rattle.gate_log.specs.declared.fault.LogFault.{LogFault}
 use Rattle.gate_log.specs.declared.fault.LogFault.TheVariants.{Damaged}
 use Rattle.manifest_log.proofs.FollowLemmas.{if_some_at}
-use Rattle.series_store.specs.Calls.{Kept}
 use Rattle.shard_recover.specs.Damage.{IsWrongLog}
 use Rattle.shard_recover.proofs.FileLemmas.{same_then}
 use Rattle.shard_opening.specs.Filling.{FillsAll}
@@ -35,8 +34,7 @@ returns-in_err-all_taken-clause-damaged g c = λ damage is told.
     let begun = c.in-Some.begun in
     let found = if_some_at _ c.in_ok-begun.field-0 c.in-Some.begun c.in-Some.is c.in_ok-begun.ensures.found in
     let wal = c.in_ok-wal.wal in
-    let filled = subst (λ (l : List ℕ). FillsAll (IsTrue g.D.Disk.tells) begun.series.keys begun.named.floor l wal c.fill_all.new.filling (g.D.Disk.files c.fill_all.new.disk) (g.D.Disk.crashes c.begin.new.disk) (g.D.Disk.crashes c.fill_all.new.disk)) c.as_slice-segments.ensures
-    (subst (λ (k : List (List ℕ)). FillsAll (IsTrue g.D.Disk.tells) k begun.named.floor c.as_slice-segments.result.now wal c.fill_all.new.filling (g.D.Disk.files c.fill_all.new.disk) (g.D.Disk.crashes c.begin.new.disk) (g.D.Disk.crashes c.fill_all.new.disk)) (ap (λ (s : Kept). s.keys) c.series.view_is) c.in_ok-wal.ensures.filled) in
+    let filled = subst (λ (l : List ℕ). FillsAll (IsTrue g.D.Disk.tells) begun.series.keys begun.named.floor l wal c.fill_all.new.filling (g.D.Disk.files c.fill_all.new.disk) (g.D.Disk.crashes c.begin.new.disk) (g.D.Disk.crashes c.fill_all.new.disk)) c.as_slice-segments.ensures c.in_ok-wal.ensures.filled in
     entry_refused g.D.Disk c.args.disk.now c.begin.new.disk begun found c.args.alloc c.fill_all.new.disk wal c.fill_all.new.filling c.begin.ensures.files c.fill_all.ensures.files c.begin.ensures.crash c.fill_all.ensures.crash filled place damage refused.1 is_there told
 
 pub returns-in_err-all_taken-clause-crash : goal.returns-in_err-all_taken-clause-crash
@@ -48,8 +46,7 @@ returns-clause-opens g c =
     let begun = c.in-Some.begun in
     let found = if_some_at _ c.in_ok-begun.field-0 c.in-Some.begun c.in-Some.is c.in_ok-begun.ensures.found in
     let wal = c.in_ok-wal.wal in
-    let filled = subst (λ (l : List ℕ). FillsAll (IsTrue g.D.Disk.tells) begun.series.keys begun.named.floor l wal c.fill_all.new.filling (g.D.Disk.files c.fill_all.new.disk) (g.D.Disk.crashes c.begin.new.disk) (g.D.Disk.crashes c.fill_all.new.disk)) c.as_slice-segments.ensures
-    (subst (λ (k : List (List ℕ)). FillsAll (IsTrue g.D.Disk.tells) k begun.named.floor c.as_slice-segments.result.now wal c.fill_all.new.filling (g.D.Disk.files c.fill_all.new.disk) (g.D.Disk.crashes c.begin.new.disk) (g.D.Disk.crashes c.fill_all.new.disk)) (ap (λ (s : Kept). s.keys) c.series.view_is) c.in_ok-wal.ensures.filled) in
+    let filled = subst (λ (l : List ℕ). FillsAll (IsTrue g.D.Disk.tells) begun.series.keys begun.named.floor l wal c.fill_all.new.filling (g.D.Disk.files c.fill_all.new.disk) (g.D.Disk.crashes c.begin.new.disk) (g.D.Disk.crashes c.fill_all.new.disk)) c.as_slice-segments.ensures c.in_ok-wal.ensures.filled in
     λ told state sound.
     read_opens g.D.Disk c.args.disk.now c.begin.new.disk begun found c.args.alloc c.fill_all.new.disk wal c.fill_all.new.filling c.begin.ensures.files c.fill_all.ensures.files c.begin.ensures.crash c.fill_all.ensures.crash filled
     (laws.keeps_adopted c.args.disk.now told) (c.fill_all.ensures.handed_out ∙ c.begin.ensures.handed_out) told state sound
@@ -59,8 +56,7 @@ returns-clause-stood g c =
     let begun = c.in-Some.begun in
     let found = if_some_at _ c.in_ok-begun.field-0 c.in-Some.begun c.in-Some.is c.in_ok-begun.ensures.found in
     let wal = c.in_ok-wal.wal in
-    let filled = subst (λ (l : List ℕ). FillsAll (IsTrue g.D.Disk.tells) begun.series.keys begun.named.floor l wal c.fill_all.new.filling (g.D.Disk.files c.fill_all.new.disk) (g.D.Disk.crashes c.begin.new.disk) (g.D.Disk.crashes c.fill_all.new.disk)) c.as_slice-segments.ensures
-    (subst (λ (k : List (List ℕ)). FillsAll (IsTrue g.D.Disk.tells) k begun.named.floor c.as_slice-segments.result.now wal c.fill_all.new.filling (g.D.Disk.files c.fill_all.new.disk) (g.D.Disk.crashes c.begin.new.disk) (g.D.Disk.crashes c.fill_all.new.disk)) (ap (λ (s : Kept). s.keys) c.series.view_is) c.in_ok-wal.ensures.filled) in
+    let filled = subst (λ (l : List ℕ). FillsAll (IsTrue g.D.Disk.tells) begun.series.keys begun.named.floor l wal c.fill_all.new.filling (g.D.Disk.files c.fill_all.new.disk) (g.D.Disk.crashes c.begin.new.disk) (g.D.Disk.crashes c.fill_all.new.disk)) c.as_slice-segments.ensures c.in_ok-wal.ensures.filled in
     read_stands g.D.Disk c.args.disk.now c.begin.new.disk begun found c.args.alloc c.fill_all.new.disk wal c.fill_all.new.filling c.begin.ensures.files c.fill_all.ensures.files c.begin.ensures.crash c.fill_all.ensures.crash filled
     c.in_ok-all_taken.ensures.ok
 
@@ -74,8 +70,7 @@ returns-clause-ready g c =
     let begun = c.in-Some.begun in
     let found = if_some_at _ c.in_ok-begun.field-0 c.in-Some.begun c.in-Some.is c.in_ok-begun.ensures.found in
     let wal = c.in_ok-wal.wal in
-    let filled = subst (λ (l : List ℕ). FillsAll (IsTrue g.D.Disk.tells) begun.series.keys begun.named.floor l wal c.fill_all.new.filling (g.D.Disk.files c.fill_all.new.disk) (g.D.Disk.crashes c.begin.new.disk) (g.D.Disk.crashes c.fill_all.new.disk)) c.as_slice-segments.ensures
-    (subst (λ (k : List (List ℕ)). FillsAll (IsTrue g.D.Disk.tells) k begun.named.floor c.as_slice-segments.result.now wal c.fill_all.new.filling (g.D.Disk.files c.fill_all.new.disk) (g.D.Disk.crashes c.begin.new.disk) (g.D.Disk.crashes c.fill_all.new.disk)) (ap (λ (s : Kept). s.keys) c.series.view_is) c.in_ok-wal.ensures.filled) in
+    let filled = subst (λ (l : List ℕ). FillsAll (IsTrue g.D.Disk.tells) begun.series.keys begun.named.floor l wal c.fill_all.new.filling (g.D.Disk.files c.fill_all.new.disk) (g.D.Disk.crashes c.begin.new.disk) (g.D.Disk.crashes c.fill_all.new.disk)) c.as_slice-segments.ensures c.in_ok-wal.ensures.filled in
     read_ready g.D.Disk c.args.disk.now c.begin.new.disk begun found c.args.alloc c.fill_all.new.disk wal c.fill_all.new.filling c.begin.ensures.files c.fill_all.ensures.files c.begin.ensures.crash c.fill_all.ensures.crash filled
 
 pub returns-clause-crash : goal.returns-clause-crash
