@@ -1,18 +1,15 @@
 -- An engine that was opened on a disk, served clients and was closed.
 use Rattle.std.proofs.Common.{◌≡◌, ℕ, List, [], refl, ap, subst, None}
-use Rattle.std.specs.Prelude.{Err, IsTrue, Result}
+use Rattle.std.specs.Prelude.{Ok, Err, Result}
 use Rattle.shard_disk.specs.Health.{Health}
 use Rattle.shard_disk.specs.declared.disk.Disk.{Ghosts}
 use Rattle.shard_disk.specs.declared.trouble.Trouble.{Trouble}
-use Rattle.shard_disk.specs.declared.damage.Damage.{Damage}
 use Rattle.gate_log.specs.declared.fault.LogFault.{LogFault}
-use Rattle.gate_log.specs.declared.fault.LogFault.TheVariants.{Damaged}
-use Rattle.point_model.specs.Histories.{State}
 use Rattle.store_trait.specs.Told.{Limits}
-use Rattle.shard_state.specs.Opening.{IsSoundAtOpening, IsSoundThroughout}
 use Rattle.shard_calls.specs.Told.{limits_of}
-use Rattle.shard_opening.specs.Opening.{Begins, HasCause, Opens}
+use Rattle.shard_opening.specs.Opening.{Answers, Begins, HasCause, KeepsNamed}
 use Rattle.shard_recover.specs.Opening.{LeavesState}
+use Rattle.shard_recover.proofs.StandingLemmas.{one_state, sound_stands, sound_undamaged}
 use Rattle.shard_steps.specs.Shards.{state_of}
 use Rattle.shard_steps.specs.declared.settings.Settings.{Settings}
 use Rattle.shard_steps.specs.declared.shard.Shard.{Shard}
@@ -20,7 +17,7 @@ use Rattle.engine_session.specs.Serving.{AreServed, ClientSession, Serves}
 use Rattle.engine_session.specs.Shells.{OpensNone, ServesDirectory, limits_with}
 
 module _ {D R W : Type 0} (g : Ghosts D R W) (settings : Settings) (disk : D) (engine : Shard D) (are : engine.settings ≡ settings) (health : g.health engine.logs.disk ≡ g.health disk)
-    (opens : Opens g disk engine) (begins : Begins g disk engine) (sessions : List ClientSession) (disk' : D) (number : ℕ) (closed : Result (Unit {0}) Trouble) (serves : Serves g sessions engine disk' number closed) where
+    (answers : Answers g disk (Ok engine)) (begins : Begins g disk engine) (sessions : List ClientSession) (disk' : D) (number : ℕ) (closed : Result (Unit {0}) Trouble) (serves : Serves g sessions engine disk' number closed) where
   limits_are : limits_of (state_of engine) engine.logs.series.keys engine ≡ limits_with settings (state_of engine) engine.logs.series.keys
   limits_are = ap (λ (s : Settings). limits_with s (state_of engine) engine.logs.series.keys) are
 
@@ -34,18 +31,26 @@ module _ {D R W : Type 0} (g : Ghosts D R W) (settings : Settings) (disk : D) (e
     served = subst (λ (l : Limits). AreServed sessions (state_of engine) l serves.held serves.history (g.health disk) serves.middle) limits_are
         (subst (λ (h : Health). AreServed sessions (state_of engine) (limits_of (state_of engine) engine.logs.series.keys engine) serves.held serves.history h serves.middle) health serves.served);
     counted = serves.counted;
-    is = opens;
+    stood = λ told. let a = answers told in a.stood;
+    is = λ told state sound.
+        let stands = sound_stands g disk state sound in
+        let a = answers told in
+        let same = one_state (g.files disk) (state_of engine) state engine.logs.series.keys stands.0 a.stood stands.1 in
+        same.0;
     lasts = λ told sound. serves.lasts told (g.crashes disk).moment (record { made = []; are = refl; refused = []; doubt = None; runs = begins told (state_of engine) sound });
     closing = serves.closing;
   }
 
 -- what a refused opening tells
-pub opens_none : {D R W : Type 0} (g : Ghosts D R W) (disk : D) (refused : D × LogFault) → HasCause {D = D} (Err refused) (g.health disk) g.health → LeavesState g disk refused.0
-    → (IsTrue g.tells → (state : State) → IsSoundAtOpening g disk state → (damage : Damage) → refused.1 ≡ Damaged damage → ⊥) → OpensNone g disk refused.0 refused.1
-opens_none {D} {R} {W} g disk refused cause leaves undamaged = record {
+pub opens_none : {D R W : Type 0} (g : Ghosts D R W) (disk : D) (refused : D × LogFault) → HasCause {D = D} (Err refused) (g.health disk) g.health → LeavesState g disk refused.0 → Answers g disk (Err refused)
+    → KeepsNamed g disk refused.0 → OpensNone g disk refused.0 refused.1
+opens_none {D} {R} {W} g disk refused cause leaves answers kept = record {
   ages = cause.0;
   fault = cause.1;
   quiet = cause.2;
-  undamaged = undamaged;
+  undamaged = λ told state sound damage is. let refuses = answers told in sound_undamaged g disk state damage sound (refuses.place damage is);
+  place = λ told. let refuses = answers told in refuses.place;
+  left = λ told. let refuses = answers told in refuses.left;
   crash = leaves;
+  kept = kept;
 }

@@ -15,7 +15,10 @@ use Rattle.shard_disk.specs.Directory.{Directory}
 use Rattle.shard_state.specs.Crashes.{LeavesOnly}
 use Rattle.shard_state.specs.Meaning.{Stands}
 use Rattle.shard_state.specs.Opening.{IsSoundAtOpening, IsSoundThroughout}
+use Rattle.shard_recover.specs.Damage.{IsFirstDamage}
+use Rattle.shard_recover.specs.Standing.{Stood}
 use Rattle.shard_steps.specs.declared.settings.Settings.{Settings}
+use Rattle.shard_opening.specs.Opening.{IsLeft, KeepsNamed}
 use Rattle.engine_session.specs.Durable.{Lasts}
 use Rattle.engine_session.specs.Ends.{EndsBy}
 use Rattle.engine_session.specs.Serving.{AreServed, ClientSession}
@@ -26,17 +29,22 @@ use Rattle.engine_session.specs.declared.directory.ShellEnd.TheVariants.{Opening
 abbrev pub limits_with : Settings → State → List (List ℕ) → Limits
 limits_with settings start series = record { cached = length start.points; most_cached = settings.cache_points; series = series; most_series = settings.series }
 
--- The directory wasn't opened. A fault came where the disk failed, and there alone; none that is sound was found damaged; and what a
--- crash leaves stands for what it did before.
+-- The directory wasn't opened. A fault came where the disk failed, and there alone; none that is sound was found damaged; damage is the
+-- first that is wrong, and a directory that is damaged was left as it was found; what a crash leaves stands for what it did before; files
+-- that are named were kept, and no reader is out more than before.
 pub record OpensNone {D R W : Type 0} (g : Ghosts D R W) (disk disk' : D) (why : LogFault) : Type 0 where
   pub ages : Ages (g.health disk) (g.health disk')
   pub fault : why ≡ Fault → Failed (g.health disk) (g.health disk')
   pub quiet : why ≢ Fault → g.health disk' ≡ g.health disk
   pub undamaged : IsTrue g.tells → (state : State) → IsSoundAtOpening g disk state → (damage : Damage) → why ≡ Damaged damage → ⊥
+  pub place : IsTrue g.tells → (damage : Damage) → why ≡ Damaged damage → IsFirstDamage damage (g.files disk)
+  pub left : IsTrue g.tells → (damage : Damage) → IsFirstDamage damage (g.files disk) → IsLeft g disk disk'
   pub crash : IsTrue g.tells → (state : State) → IsSoundThroughout g disk state → LeavesOnly (λ (c : Directory). Stands c state) (g.crashes disk) (g.crashes disk')
+  pub kept : KeepsNamed g disk disk'
 
--- The directory was opened, clients were served over it, and it was closed. One history explains what all of them were told. Over a
--- sound disk it begins with the state that the disk stood for, and the disk was left with it, at every moment since the opening began.
+-- The directory was opened, clients were served over it, and it was closed. One history explains what all of them were told. It begins
+-- with the state and the series for which the files stood; and where the disk was sound it was left with the history, at every moment
+-- since the opening began.
 pub record ServesDirectory {D R W : Type 0} (g : Ghosts D R W) (settings : Settings) (disk disk' : D) (sessions : List ClientSession) (number : ℕ) (closed : Result (Unit {0}) Trouble) : Type 0 where
   pub start : State
   pub series : List (List ℕ)
@@ -45,6 +53,7 @@ pub record ServesDirectory {D R W : Type 0} (g : Ghosts D R W) (settings : Setti
   pub middle : Health
   pub served : AreServed sessions start (limits_with settings start series) held history (g.health disk) middle
   pub counted : number ≡ start.number + length history
+  pub stood : IsTrue g.tells → Stood (g.files disk) start series
   pub is : IsTrue g.tells → (state : State) → IsSoundAtOpening g disk state → start ≡ state
   pub lasts : IsTrue g.tells → IsSoundThroughout g disk start → Lasts g disk' (g.crashes disk).moment start history closed
   pub closing : FaultHasCause closed middle (g.health disk')

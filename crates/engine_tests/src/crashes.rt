@@ -1,9 +1,9 @@
 ghost use Rattle.manifest_log.specs.Calls.{HasNoReader};
 
 use crate::engines::{SCRIPT, Seen, after, run};
-use gate_log::LogFault;
 use mem_disk::{Fuse, MemDisk};
 use shard_disk::Disk;
+use shard_opening::OpenFault;
 use shard_steps::Settings;
 use std::test::Fail;
 
@@ -82,7 +82,7 @@ fn each_image_of_a_stopped_opening_has_it_too(rt: HostRuntime) -> Result<(), Fai
         for calls in 0..MOST_OPENING_CALLS {
             let fuse = fused(disk.image(&[1])?, calls);
             let (fuse, seen) = run(&rt, fuse, Settings::usual(), &[]);
-            opened = seen != Seen::Refused(LogFault::Fault);
+            opened = seen != Seen::Refused(OpenFault::Fault);
             assert!(rt; further(&rt, fuse.into_disk().image(&[2, 0])?, accepted).is_some());
         }
         assert!(rt; opened);

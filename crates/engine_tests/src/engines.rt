@@ -2,18 +2,12 @@
 ghost use Rattle.std.specs.Prelude.{◌≡◌, IfSome};
 ghost use Rattle.manifest_log.specs.Calls.{HasNoReader};
 ghost use Rattle.point_model.specs.Acceptance.{IsWritable};
-ghost use Rattle.shard_state.specs.Engine;
 ghost use Rattle.shard_steps.specs.Shards.{IsReady};
 
-use gate_log::LogFault;
 use line_protocol::read_batch;
-use live_points::LivePoints;
-use point_model::{Entry, Need, PointCursor, TagCond, TagTest};
-use series_store::Series;
+use point_model::{Need, PointCursor, TagCond, TagTest};
 use shard_disk::Disk;
-use shard_opening::take_in;
-use shard_recover::Opened;
-use shard_state::{Logs, close};
+use shard_opening::{OpenFault, close, open};
 use shard_steps::{Settings, Shard, begin_view, end_view, write};
 use std::alloc::{AllocError, Global};
 use std::hash::RandomState;
@@ -44,9 +38,7 @@ pub(crate) fn after(number: u64) -> Summary {
 #[derive(Debug, PartialEq, Drop)]
 pub(crate) enum Seen {
     /// The directory was refused.
-    Refused(LogFault),
-    /// An entry of the log couldn't be taken in.
-    Unfit,
+    Refused(OpenFault),
     /// The answer to the last line that was written, what was there at the end, and whether closing was accepted.
     Ran {
         last: Option<Result<u64, WriteFault>>,
@@ -90,28 +82,22 @@ pub(crate) fn run<D: Disk>(
 ) -> (D, Seen)
     requires unread { HasNoReader (D.handed_out disk) }
 {
-    match shard_recover::open(rt.alloc(), Seed::new(7), disk) {
-        Ok(Opened { logs, entries }) => match points_of(rt, logs.series(), &entries) {
-            Some(live) => serve(rt.alloc(), logs, live, settings, lines),
-            None => (close(logs).0, Seen::Unfit),
-        },
+    let Ok(hashing) = RandomState::new(rt) else {
+        return (disk, Seen::Refused(OpenFault::Memory));
+    };
+    match open(rt.alloc(), Seed::new(7), hashing, disk, settings) {
+        Ok(shard) => serve(rt.alloc(), shard, lines),
         Err((disk, fault)) => (disk, Seen::Refused(fault)),
     }
 }
 
-fn serve<D: Disk>(
-    alloc: Global,
-    logs: Logs<D>,
-    live: LivePoints,
-    settings: Settings,
-    lines: &[&str],
-) -> (D, Seen)
-    requires ready { Engine.IsReady D.Disk logs }
+fn serve<D: Disk>(alloc: Global, shard: Shard<D>, lines: &[&str]) -> (D, Seen)
+    requires ready { IsReady D.Disk shard }
 {
-    let mut shard = Shard::new(alloc, Seed::new(7), logs, live, settings);
+    let mut shard = shard;
     let last = put_all(alloc, &mut shard, lines);
     let found = summary(alloc, &mut shard);
-    let (disk, closed) = close(shard.into_logs());
+    let (disk, closed) = close(shard);
     let closed = closed.is_ok();
     (
         disk,
@@ -121,16 +107,6 @@ fn serve<D: Disk>(
             closed,
         },
     )
-}
-
-/// The points that the entries leave.
-fn points_of(rt: &HostRuntime, series: &Series, entries: &[Entry]) -> Option<LivePoints> {
-    let alloc = rt.alloc();
-    let mut live = LivePoints::new(alloc, RandomState::new(rt).ok()?);
-    for entry in entries {
-        take_in(alloc, series, &mut live, entry).ok()?;
-    }
-    Some(live)
 }
 
 /// Writes lines up to the first that is refused, and gives the answer to the last.

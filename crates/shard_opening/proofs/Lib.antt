@@ -1,3 +1,7 @@
+mod FillLemmas
 mod FitLemmas
 mod KindLemmas
 mod OpenedLemmas
+mod PlaceLemmas
+mod ReadLemmas
+mod WholeLemmas

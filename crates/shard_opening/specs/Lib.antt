@@ -1,3 +1,4 @@
 pub mod Columns
+pub mod Filling
 pub mod Kinds
 pub mod Opening

@@ -1,30 +1,43 @@
 // From a disk to an engine, and back.
-ghost use Rattle.std.specs.Prelude.{◌≡◌, ◌≢◌, Err, IsTrue, IfOk, IfErr};
+ghost use Rattle.std.specs.Prelude.{◌≡◌, Err, None, IsTrue, IfOk, IfErr, IfSome, IfNone};
+ghost use Rattle.shard_disk.specs.Crash.{Leaves, Same};
+ghost use Rattle.shard_disk.specs.Directory.{HasFile};
 ghost use Rattle.shard_disk.specs.declared.damage.Damage.{Damage};
-ghost use Rattle.point_model.specs.Histories.{State, after};
+ghost use Rattle.gate_log.specs.Faults.{LogHasCause};
+ghost use Rattle.point_model.specs.Histories.{State};
 ghost use Rattle.point_model.specs.Points.{no_points};
 ghost use Rattle.manifest_log.specs.Calls.{HasNoReader};
+ghost use Rattle.manifest_log.specs.Reading.{IsFresh, IsManifest};
 ghost use Rattle.shard_state.specs.Calls.{Closes};
+ghost use Rattle.shard_state.specs.Creating as creating;
 ghost use Rattle.shard_state.specs.Engine as engine;
-ghost use Rattle.shard_recover.specs.Opening.{LeavesState};
-ghost use Rattle.shard_state.specs.Meaning.{AreTaken};
 ghost use Rattle.shard_state.specs.Opening.{IsSoundAtOpening};
+ghost use Rattle.shard_recover.specs.Damage.{IsFirstDamage};
+ghost use Rattle.shard_recover.specs.Opening.{HasOpeningCause, LeavesState, OpensParts, ReadyParts};
+ghost use Rattle.shard_recover.specs.Standing.{Stood};
 ghost use Rattle.shard_steps.specs.Shards.{IsReady};
-ghost use Rattle.shard_opening.specs.Opening.{Begins, HasCause, IsFirst, LeavesOpened, Opens};
+ghost use Rattle.shard_opening.specs.Opening.{Answers, AnswersLogs, Begins, HasCause, IsFirst, KeepsNamed, OpensLogs, Settles, disk_of};
 
-use crate::taking::{TakeFault, take_all};
+use crate::filling::{Filling, all_taken};
+use crate::segments::fill_all;
 use gate_log::LogFault as OpenFault;
 use live_points::LivePoints;
-use shard_disk::{Damage, Disk, Trouble, Why};
-use shard_recover::Opened;
+use shard_disk::{Disk, Trouble};
+use shard_recover::{Begun, Parts, begin, join, open_new};
 use shard_state::Logs;
 use shard_steps::{Settings, Shard};
 use std::alloc::Global;
 use std::hash::RandomState;
 use tsdb_types::Seed;
 
-/// The engine of the disk's directory. A directory that names nothing yet is made; in another one the entries of the log are taken
-/// into memory, and files that the manifest doesn't name are removed. A refusal hands the disk back.
+/// The engine of the disk's directory. A directory that names nothing yet is made. Of another one the segments are read entry by
+/// entry into memory, and then the files that the manifest doesn't name are removed. A refusal hands the disk back.
+///
+/// # Errors
+///
+/// `Damaged` names the first damage: the manifest's; then that of the series file, and of the segments one after another, each where
+/// it is missing or wrong; then the first entry that can't stand behind those before it, at its gate. Such a directory is left as it
+/// was found.
 pub fn open<D: Disk>(
     alloc: Global,
     seed: Seed,
@@ -34,72 +47,97 @@ pub fn open<D: Disk>(
 ) -> Result<Shard<D>, (D, OpenFault)>
     requires unread { HasNoReader (D.handed_out disk) }
 
-    ensures ok { IfOk result (λ shard. Opens D.Disk disk shard) }
+    ensures answers { Answers D.Disk disk result }
+    // A history of the engine begins at the moment after the call, or at that before it.
+    ensures settled { IfOk result (λ shard. Settles D.Disk disk shard) }
+    ensures begins { IfOk result (λ shard. Begins D.Disk disk shard) }
     ensures ready { IfOk result (IsReady D.Disk) }
     ensures first { IfOk result (IsFirst settings) }
-    // A history of the engine begins at the moment before the call.
-    ensures begins { IfOk result (λ shard. Begins D.Disk disk shard) }
     // A crash at any moment of the call leaves what stands for the same, where what one before would have left does.
     ensures refused { IfErr result (λ refused. LeavesState D.Disk disk refused.0) }
-    ensures undamaged { IfErr result (λ refused. IsTrue D.tells → (state : State) → IsSoundAtOpening D.Disk disk state → (damage : Damage) → refused.1 ≡ OpenFault.Damaged damage → ⊥) }
+    // No reader is out more than before, so that the disk can be opened again.
+    ensures kept { KeepsNamed D.Disk disk (disk_of result) }
     ensures fault { HasCause result (D.health disk) D.health }
 {
-    match shard_recover::open(alloc, seed, disk) {
+    let mut filling = Filling {
+        live: LivePoints::new(alloc, hashing),
+        refused: None,
+    };
+    match open_logs(alloc, seed, disk, &mut filling) {
+        Ok(logs) => {
+            let Filling { live, refused: _ } = filling;
+            Ok(Shard::new(alloc, seed, logs, live, settings))
+        }
         Err(refused) => Err(refused),
-        Ok(opened) => fill(alloc, seed, hashing, opened, settings),
     }
 }
 
-/// Takes the entries of what was opened into memory.
-fn fill<D: Disk>(
+/// The logs of the disk's directory; their entries are taken into memory.
+fn open_logs<D: Disk>(
     alloc: Global,
     seed: Seed,
-    hashing: RandomState,
-    opened: Opened<D>,
-    settings: Settings,
-) -> Result<Shard<D>, (D, OpenFault)>
-    requires ready { engine.IsReady D.Disk opened.logs }
+    disk: D,
+    filling: &mut Filling,
+) -> Result<Logs<D>, (D, OpenFault)>
+    requires unread { HasNoReader (D.handed_out disk) }
+    requires none { (filling.old.refused ≡ None) × (filling.old.live.points ≡ no_points) }
 
-    ensures logs { IfOk result (λ shard. shard.logs ≡ opened.logs) }
-    ensures points { IfOk result (λ shard. shard.live.points ≡ after no_points opened.entries.items) }
-    ensures first { IfOk result (IsFirst settings) }
-    ensures refused { IfErr result (λ refused. LeavesOpened D.Disk opened.logs refused.0) }
-    ensures undamaged { IfErr result (λ refused. (damage : Damage) → refused.1 ≡ OpenFault.Damaged damage → AreTaken opened.logs.series.keys no_points opened.entries.items → ⊥) }
-    ensures fault { HasCause result (D.health opened.logs.disk) D.health }
+    ensures answers { AnswersLogs D.Disk disk filling.new result }
+    ensures opens { IfOk result (λ logs. OpensLogs D.Disk disk logs) }
+    ensures ready { IfOk result (engine.IsReady D.Disk) }
+    ensures crash { LeavesState D.Disk disk (creating.disk_of result) }
+    ensures kept { KeepsNamed D.Disk disk (creating.disk_of result) }
+    ensures fault { HasOpeningCause result (D.health disk) D.health }
 {
-    let Opened { logs, entries } = opened;
-    let mut live = LivePoints::new(alloc, hashing);
-    match take_all(alloc, logs.series(), &mut live, &entries) {
-        Ok(()) => Ok(Shard::new(alloc, seed, logs, live, settings)),
-        Err(TakeFault::Unfit) => Err(give_up(logs, unfit())),
-        Err(TakeFault::Memory) => Err(give_up(logs, OpenFault::Memory)),
+    let mut disk = disk;
+    match read_all(alloc, seed, &mut disk, filling) {
+        Ok(Some(parts)) => join(alloc, disk, parts),
+        Ok(None) => open_new(alloc, seed, disk),
+        Err(fault) => Err((disk, fault)),
     }
 }
 
-/// An entry can't stand behind those before it. Which one it is isn't told.
-fn unfit() -> OpenFault
-    ensures { result ≢ OpenFault.Fault }
-{
-    OpenFault::Damaged(Damage {
-        file: 0,
-        offset: 0,
-        why: Why::Body,
-    })
-}
+/// Reads all that the manifest names, and takes the entries into memory; `None` where nothing is named yet.
+fn read_all<D: Disk>(
+    alloc: Global,
+    seed: Seed,
+    disk: &mut D,
+    filling: &mut Filling,
+) -> Result<Option<Parts>, OpenFault>
+    requires none { (filling.old.refused ≡ None) × (filling.old.live.points ≡ no_points) }
 
-/// Gives the disk of logs back that were opened for nothing.
-fn give_up<D: Disk>(logs: Logs<D>, fault: OpenFault) -> (D, OpenFault)
-    requires ready { engine.IsReady D.Disk logs }
-    requires no_fault { fault ≢ OpenFault.Fault }
-    ensures leaves { LeavesOpened D.Disk logs result.0 }
-    ensures damaged { (damage : Damage) → result.1 ≡ OpenFault.Damaged damage → fault ≡ OpenFault.Damaged damage }
-    ensures fault { HasCause (Err result) (D.health logs.disk) D.health }
+    ensures opens { IfOk result (λ found. IfSome found (λ parts. IsTrue D.tells → (state : State) → IsSoundAtOpening D.Disk disk.old state → OpensParts D.Disk state alloc disk.new parts)) }
+    ensures stood { IfOk result (λ found. IfSome found (λ parts. IsTrue D.tells
+        → Stood (D.files disk.old) (record { points = filling.new.live.points; number = parts.wal.last }) parts.series.keys)) }
+    ensures manifest { IfOk result (λ found. IfSome found (λ parts. IsTrue D.tells → HasFile (D.files disk.old) 0 (IsManifest parts.named))) }
+    ensures ready { IfOk result (λ found. IfSome found (ReadyParts D.Disk alloc disk.new)) }
+    ensures fresh { IfOk result (λ found. IfNone found ((IsTrue D.tells → IsFresh (D.files disk.old)) × (filling.new ≡ filling.old))) }
+    ensures damaged { (damage : Damage) → result ≡ Err (OpenFault.Damaged damage) → IsTrue D.tells → IsFirstDamage damage (D.files disk.old) }
+    ensures fault { LogHasCause result (D.health disk.old) (D.health disk.new) }
+    ensures files { D.files disk.new ≡ D.files disk.old }
+    ensures crash { Leaves Same (D.crashes disk.old) (D.crashes disk.new) }
+    ensures handed_out { D.handed_out disk.new ≡ D.handed_out disk.old }
 {
-    match shard_state::close(logs) {
-        (disk, Ok(())) => (disk, fault),
-        (disk, Err(Trouble::Memory)) => (disk, OpenFault::Memory),
-        (disk, Err(Trouble::Fault)) => (disk, OpenFault::Fault),
-    }
+    let Some(begun) = begin(alloc, seed, disk)? else {
+        return Ok(None);
+    };
+    let Begun {
+        manifest,
+        named,
+        series,
+        numbers,
+    } = begun;
+    let segments = named.segments.as_slice();
+    let wal = fill_all(
+        alloc, seed, disk, &series, &numbers, segments, named.floor, filling,
+    )?;
+    all_taken(filling)?;
+    Ok(Some(Parts {
+        manifest,
+        named,
+        series,
+        wal,
+    }))
 }
 
 /// Settles what is in doubt, and gives the disk back. After Ok the directory stands for exactly the points and the number.

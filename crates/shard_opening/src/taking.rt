@@ -2,9 +2,9 @@
 ghost use Rattle.std.specs.Prelude.{◌≡◌, ◌-◌, ◌≤◌, ◌<◌, ◌^◌, min, option_copied, false, IsTrue, IsErrOf, IfOk, OnOk, OnErr};
 ghost use Rattle.point_model.specs.Acceptance.{IsAccepted, IsWritable};
 ghost use Rattle.point_model.specs.Deletions.{without};
-ghost use Rattle.point_model.specs.Histories.{after, after_entry, with_points};
+ghost use Rattle.point_model.specs.Histories.{after_entry, with_points};
 ghost use Rattle.point_model.specs.Sizes.{most_bytes, write_length};
-ghost use Rattle.shard_state.specs.Meaning.{AreHeld, AreTaken, IsTaken};
+ghost use Rattle.shard_state.specs.Meaning.{AreHeld, IsTaken};
 ghost use Rattle.std.specs.List.{AllByRecursion};
 ghost use Rattle.shard_opening.specs.Columns.{IsFit, length_before};
 
@@ -157,21 +157,4 @@ fn length_of(point: &Point, next: Option<&Point>) -> u64
             }
         }
     }
-}
-
-/// Takes entries of the log into the points in memory, one after another.
-pub fn take_all(
-    alloc: Global,
-    series: &Series,
-    live: &mut LivePoints,
-    entries: &[Entry],
-) -> Result<(), TakeFault>
-    ensures ok { OnOk result (live.new.points ≡ after live.old.points entries.now) }
-    ensures taken { OnOk result (AreTaken series.now.keys live.old.points entries.now) }
-    ensures unfit { IsErrOf result TakeFault.Unfit → AreTaken series.now.keys live.old.points entries.now → ⊥ }
-{
-    for entry in entries {
-        take_in(alloc, series, live, entry)?;
-    }
-    Ok(())
 }

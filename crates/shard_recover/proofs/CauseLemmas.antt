@@ -1,6 +1,6 @@
 -- Which health of the disk an answer tells, over several calls.
 use Rattle.std.proofs.Common.{◌≡◌, sym, subst, Result, Ok, Err, Option, None, Some}
-use Rattle.std.specs.Prelude.{IfOk, IfErr, IfNone, IsErrOf, IsErrAnd}
+use Rattle.std.specs.Prelude.{IfOk, IfErr, IfNone, IsErrOf, IsErrAnd, OnOk}
 use Rattle.std.proofs.lemmas.Result.{err_from_is_err_and}
 use Rattle.shard_disk.specs.Health.{Health, Ages}
 use Rattle.shard_disk.proofs.HealthLemmas.{ages_still}
@@ -35,3 +35,7 @@ if_err_map (Err e) leads p = leads e p
 pub if_none_at : {T A : Type 0} (o : Option T) → o ≡ None → IfNone o A → A
 if_none_at None is a = a
 if_none_at (Some x) is a = cc is
+
+pub on_ok_then : {T E : Type 0} {P Q : Type 0} (r : Result T E) → (P → Q) → OnOk r P → OnOk r Q
+on_ok_then (Ok x) leads p = leads p
+on_ok_then (Err e) leads p = p

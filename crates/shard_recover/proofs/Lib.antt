@@ -1,10 +1,14 @@
 pub mod CauseLemmas
+pub mod CutLemmas
+pub mod DamageLemmas
 pub mod FileLemmas
 pub mod NamedLemmas
+pub mod NewLemmas
 pub mod OpeningLemmas
 pub mod ReadLemmas
-pub mod SweepLemmas
+pub mod RefusedLemmas
 pub mod SpareLemmas
 pub mod SparedLemmas
-pub mod NewLemmas
+pub mod StandingLemmas
+pub mod SweepLemmas
 pub mod WrongLemmas

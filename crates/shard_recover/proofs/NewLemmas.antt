@@ -1,6 +1,5 @@
 -- A directory that names nothing yet.
 use Rattle.std.proofs.Common.{◌≡◌, inl, inr, ⊎_elim, ℕ, ◌+◌, List, [], ◌∷◌, length, refl, sym, ap, subst, arith, Option, None, Some, IsTrue}
-use Rattle.std.proofs.lemmas.List.{nil_from_length}
 use Rattle.std.specs.Prelude.{IsSomeAnd}
 use Rattle.std.specs.FinMap.{get, keys}
 use Rattle.shard_disk.specs.Crash.{Crashes, Leaves, Same}
@@ -35,13 +34,12 @@ no_layers_kept files crashes [] (l ∷ layers) had = absurd had
 no_layers_kept files crashes (row ∷ rows) [] had = absurd had
 no_layers_kept files crashes (row ∷ rows) (l ∷ layers) had = absurd (nowhere (get files row.no) had.0.read)
 
--- logs that stand for nothing have no entry
-pub nothing_opens : {D R W : Type 0} (g : Ghosts D R W) (logs : Logs D) → IsOpened g nothing logs → Opens g nothing logs []
+-- logs that stand for nothing have no points in TSM files
+pub nothing_opens : {D R W : Type 0} (g : Ghosts D R W) (logs : Logs D) → IsOpened g nothing logs → Opens g nothing logs
 nothing_opens g logs opened = record {
   books = opened.books;
   holds = opened.holds;
   is = opened.is;
-  past_floor = nil_from_length opened.books.entries (let count : 0 ≡ opened.books.named.floor + length opened.books.entries = ap (λ (s : State). s.number) opened.is in omega (arith, count));
   layers = no_layers_kept (g.files logs.disk) (g.crashes logs.disk) (by_age opened.books.named.files) opened.books.layers opened.holds.keeps.layers;
 }
 

@@ -27,7 +27,7 @@ use Rattle.manifest_log.proofs.OnceLemmas.{one_manifest}
 use Rattle.series_store.specs.Calls.{Finds, Kept}
 use Rattle.series_store.specs.Reading.{IsSeriesFile}
 use Rattle.series_store.proofs.OnceLemmas.{one_file}
-use Rattle.wal_store.specs.Replay.{HasSegments, IsSegment, Logged, Replays, joined, past}
+use Rattle.wal_store.specs.Replay.{HasSegments, Holds, IsSegment, Logged, Replays, joined, past}
 use Rattle.wal_store.specs.Segments.{Segments}
 use Rattle.wal_store.proofs.OnceLemmas.{one_segment}
 use Rattle.shard_state.specs.Books.{AreApart, AreBooks, Books, IsClosedLog}
@@ -36,7 +36,8 @@ use Rattle.shard_state.specs.Keeping.{Keeps, KeepsEarlier, KeepsLayers}
 use Rattle.shard_state.specs.Layers.{HasLayers, by_age}
 use Rattle.shard_state.specs.Meaning.{IsSound, Meaning, OfLogs, state_of}
 use Rattle.shard_state.specs.Opening.{IsNamedAtOpening}
-use Rattle.shard_recover.specs.Opening.{ReadsLogs}
+use Rattle.shard_recover.specs.Opening.{IsBegun, ReadsLogs}
+use Rattle.shard_recover.specs.declared.parts.Begun.{Begun}
 use Rattle.shard_recover.proofs.FileLemmas.{same_then}
 use Rattle.shard_recover.proofs.NamedLemmas.{named_apart, rows_apart}
 
@@ -78,7 +79,7 @@ no_layers_in files [] had = refl
 no_layers_in files (l ∷ layers) had = absurd had
 
 -- where no row is there, no layer is
-no_layers : (files : Directory) (rows : List FileRow) (layers : List Points) → rows ≡ [] → HasLayers files (by_age rows) layers → layers ≡ []
+pub no_layers : (files : Directory) (rows : List FileRow) (layers : List Points) → rows ≡ [] → HasLayers files (by_age rows) layers → layers ≡ []
 no_layers files rows layers none had = no_layers_in files layers (subst (λ (r : List FileRow). HasLayers files (by_age r) layers) none had)
 
 keeps_no_layers : (files : Directory) (crashes : Crashes) (rows : List FileRow) (layers : List Points) → rows ≡ [] → layers ≡ [] → KeepsLayers files crashes (by_age rows) layers
@@ -105,6 +106,22 @@ segments_last files [] [] last latest had here = (here, tt)
 segments_last files [] (l ∷ earlier) last latest had here = absurd had
 segments_last files (b ∷ before) [] last latest had here = absurd had
 segments_last files (b ∷ before) (l ∷ earlier) last latest had here = (had.0, segments_last files before earlier last latest had.1 here)
+
+-- what was read of the segments: they have these entries
+pub replays_have : (tells : Type 0) (told : tells) (floor : ℕ) (segments : List ℕ) (wal : Segments) (entries : List Entry) (files : Directory) (crashes crashes' : Crashes) → (r : Replays tells floor segments wal entries files crashes crashes')
+    → HasSegments files segments (r.earlier ++ r.latest ∷ [])
+replays_have tells told floor segments wal entries files crashes crashes' r =
+    subst (λ (l : List ℕ). HasSegments files l (r.earlier ++ r.latest ∷ [])) (sym r.parts) (segments_last files r.before r.earlier r.file r.latest (r.have told) latest_file)
+  where
+    latest_file : HasFile files r.file (IsSegment r.latest)
+    latest_file =
+        file_weaker r.file (Spells r.records (FoundBy wal.log.gate)) (IsSegment r.latest)
+        (λ bytes spells. let log = found_log wal.log.gate r.records bytes r.log.fit spells in (r.records, r.are, log.0, log.1)) files (r.log.found told)
+
+-- and those past the floor are these
+pub replays_hold : (tells : Type 0) (floor : ℕ) (segments : List ℕ) (wal : Segments) (entries : List Entry) (files : Directory) (crashes crashes' : Crashes) → (r : Replays tells floor segments wal entries files crashes crashes')
+    → Holds floor (joined (r.earlier ++ r.latest ∷ [])) entries
+replays_hold tells floor segments wal entries files crashes crashes' r = subst (λ (l : List Logged). Holds floor l entries) (sym (joined_last r.earlier r.latest)) r.holds
 
 pub each_of : (P Q : ℕ → Type 0) → ((n : ℕ) → P n → Q n) → (ns : List ℕ) → AllByRecursion P ns → AllByRecursion Q ns
 each_of P Q leads [] all = tt
@@ -146,17 +163,11 @@ module _ (tells : Type 0) (told : tells) (files : Directory) (c0 c3 : Crashes) (
       (some_at (λ n. HasFile files n (IsSeriesFile sound.stands.meaning.series)) sound.stands.meaning.named.series file (sym (ap (λ (n : Named). n.series) same_named) ∙ reads.is) sound.stands.says.series)
       (λ bytes p q. one_file bytes kept.keys sound.stands.meaning.series p q)
 
-  latest_file : HasFile files reads.replays.file (IsSegment reads.replays.latest)
-  latest_file =
-      file_weaker reads.replays.file (Spells reads.replays.records (FoundBy wal.log.gate)) (IsSegment reads.replays.latest)
-      (λ bytes spells. let log = found_log wal.log.gate reads.replays.records bytes reads.replays.log.fit spells in (reads.replays.records, reads.replays.are, log.0, log.1)) files (reads.replays.log.found told)
-
   abbrev segments_read : List (List Logged)
   segments_read = reads.replays.earlier ++ reads.replays.latest ∷ []
 
   have_segments : HasSegments files named.segments segments_read
-  have_segments =
-      subst (λ (l : List ℕ). HasSegments files l segments_read) (sym reads.replays.parts) (segments_last files reads.replays.before reads.replays.earlier reads.replays.file reads.replays.latest (reads.replays.have told) latest_file)
+  have_segments = replays_have tells told named.floor named.segments wal entries files c0 c3 reads.replays
 
   same_segments : segments_read ≡ sound.stands.meaning.segments
   same_segments =
@@ -267,10 +278,10 @@ named_then tells found named files old mid new run m = record {
   floor = m.floor;
 }
 
-series_then : (tells : Type 0) (file : ℕ) (kept : Kept) (files : Directory) (old mid new : Crashes) → Leaves Same mid new → Finds tells file kept files old mid → Finds tells file kept files old new
+pub series_then : (tells : Type 0) (file : ℕ) (kept : Kept) (files : Directory) (old mid new : Crashes) → Leaves Same mid new → Finds tells file kept files old mid → Finds tells file kept files old new
 series_then tells file kept files old mid new run s = record { records = s.records; log = reads_then tells file kept.log s.records files old mid new run s.log; hold = s.hold }
 
-series_since : (tells : Type 0) (file : ℕ) (kept : Kept) (files : Directory) (first old new : Crashes) → Leaves Same first old → Finds tells file kept files old new → Finds tells file kept files first new
+pub series_since : (tells : Type 0) (file : ℕ) (kept : Kept) (files : Directory) (first old new : Crashes) → Leaves Same first old → Finds tells file kept files old new → Finds tells file kept files first new
 series_since tells file kept files first old new run s = record { records = s.records; log = reads_since tells file kept.log s.records files first old new run s.log; hold = s.hold }
 
 replays_since : (tells : Type 0) (floor : ℕ) (segments : List ℕ) (wal : Segments) (entries : List Entry) (files : Directory) (first old new : Crashes) → Leaves Same first old → Replays tells floor segments wal entries files old new → Replays tells floor segments wal entries files first new
@@ -290,22 +301,16 @@ replays_since tells floor segments wal entries files first old new run w = recor
   wal_is = w.wal_is;
 }
 
--- the files were listed, then the series file was read, and then the segments
-pub reads_logs : (tells : Type 0) (named : Named) (file : ℕ) (kept : Kept) (wal : Segments) (entries : List Entry) (files files' : Directory) (c0 c1 c2 c3 : Crashes) → named.files ≡ [] → named.series ≡ Some file → files' ≡ files
-    → Leaves Same c0 c1 → Leaves Same c1 c2 → Leaves Same c2 c3 → Finds tells file kept files c1 c2 → Replays tells named.floor named.segments wal entries files' c2 c3 → ReadsLogs tells named kept wal entries files' c0 c3
-reads_logs tells named file kept wal entries files files' c0 c1 c2 c3 no_files is same r01 r12 r23 s w = record {
-  no_files = no_files;
-  file = file;
-  is = is;
-  series = subst (λ (f : Directory). Finds tells file kept f c0 c3) (sym same) (series_since tells file kept files c0 c1 c3 r01 (series_then tells file kept files c1 c2 c3 r23 s));
-  replays = replays_since tells named.floor named.segments wal entries files' c0 c2 c3 (same_then c0 c1 c2 r01 r12) w;
-}
-
-pub logs_since : (tells : Type 0) (named : Named) (kept : Kept) (wal : Segments) (entries : List Entry) (files : Directory) (first old new : Crashes) → Leaves Same first old → ReadsLogs tells named kept wal entries files old new → ReadsLogs tells named kept wal entries files first new
-logs_since tells named kept wal entries files first old new run r = record {
-  no_files = r.no_files;
-  file = r.file;
-  is = r.is;
-  series = series_since tells r.file kept files first old new run r.series;
-  replays = replays_since tells named.floor named.segments wal entries files first old new run r.replays;
-}
+-- the manifest and the series file were read, and then the segments
+pub reads_all : (tells : Type 0) (begun : Begun) (wal : Segments) (entries : List Entry) (files files' : Directory) (c0 c1 c2 : Crashes) → files' ≡ files → Leaves Same c0 c1 → Leaves Same c1 c2 → IsBegun tells begun files c0 c1
+    → Replays tells begun.named.floor begun.named.segments wal entries files' c1 c2 → FindsNamed tells begun.manifest begun.named files c0 c2 × ReadsLogs tells begun.named begun.series wal entries files c0 c2
+reads_all tells begun wal entries files files' c0 c1 c2 same first second b w = (
+  named_then tells begun.manifest begun.named files c0 c1 c2 second b.manifest,
+  record {
+    no_files = b.no_files;
+    file = b.file;
+    is = b.is;
+    series = series_then tells b.file begun.series files c0 c1 c2 second b.series;
+    replays = replays_since tells begun.named.floor begun.named.segments wal entries files c0 c1 c2 first (subst (λ (f : Directory). Replays tells begun.named.floor begun.named.segments wal entries f c1 c2) same w);
+  },
+)

@@ -14,6 +14,7 @@ use Rattle.shard_state.specs.Books.{Books}
 use Rattle.shard_state.specs.Crashes.{LeavesOnly}
 use Rattle.shard_state.specs.Engine.{IsReady}
 use Rattle.shard_state.specs.Meaning.{OfLogs, Stands}
+use Rattle.shard_state.specs.declared.logs.Logs.{Logs}
 use Rattle.shard_state.proofs.Images.{image_now}
 use Rattle.shard_state.proofs.Leaving.{leaves_of}
 use Rattle.shard_state.proofs.Standing.{image_stands}
@@ -36,6 +37,11 @@ both_some P Q R leads (Some n) p q = leads n p q
 
 both_logs : (P Q R : ℕ → Type 0) → ((n : ℕ) → P n → Q n → R n) → (named : Named) → OfLogs P named → OfLogs Q named → OfLogs R named
 both_logs P Q R leads named p q = record { first = leads manifest p.first q.first; series = both_some P Q R leads named.series p.series q.series; segments = both_each P Q R leads named.segments p.segments q.segments }
+
+-- the logs have the number of the last entry
+pub joined : {D : Type 0} (alloc : Global) (disk : D) (parts : Parts) (number : ℕ) (logs : Logs D) → number ≡ parts.wal.last
+    → logs ≡ record { alloc = alloc; disk = disk; manifest = parts.manifest; series = parts.series; wal = parts.wal; number = number } → logs ≡ logs_on alloc disk parts
+joined alloc disk parts number logs last is = is ∙ (λ i. record { alloc = alloc; disk = disk; manifest = parts.manifest; series = parts.series; wal = parts.wal; number = last i })
 
 module _ {D R W : Type 0} (g : Ghosts D R W) (alloc : Global) (old new : D) (parts : Parts) where
   module _ (told : IsTrue g.tells) (state : State) (o : OpensParts g state alloc old parts) (removes : Removes g (0 ∷ names parts.named) old new) where
@@ -63,7 +69,7 @@ module _ {D R W : Type 0} (g : Ghosts D R W) (alloc : Global) (old new : D) (par
     last : IsAmong keep books.last
     last = (all_right (IsAmong keep) books.before (books.last ∷ []) segments).0
 
-    pub opens_spared : Opens g state (logs_on alloc new parts) parts.entries.items
+    pub opens_spared : Opens g state (logs_on alloc new parts)
     opens_spared = record {
       books = books;
       holds = record {
@@ -72,7 +78,6 @@ module _ {D R W : Type 0} (g : Ghosts D R W) (alloc : Global) (old new : D) (par
         number = o.opens.holds.number;
       };
       is = o.opens.is;
-      past_floor = o.opens.past_floor;
       layers = o.opens.layers;
     }
 

@@ -1,14 +1,15 @@
 -- What removing other files leaves.
-use Rattle.std.proofs.Common.{◌≡◌, ◌≢◌, ℕ, nat_eq, List, false, refl, sym, ap, ◌∙◌, subst, true, Option, IsTrue}
+use Rattle.std.proofs.Common.{◌≡◌, ◌≢◌, ◌⊎◌, ⊎_elim, inl, inr, ℕ, zero, suc, ◌+◌, ◌<◌, length, get_or, drop, arith, nat_eq, List, [], ◌∷◌, ◌||◌, Bool, false, refl, sym, ap, ◌∙◌, subst, true, Option, None, IsSome, IsTrue}
 use Rattle.std.specs.List.{list_any}
-use Rattle.std.specs.FinMap.{get}
-use Rattle.std.proofs.lemmas.Bool.{false≢true}
+use Rattle.std.specs.FinMap.{get, keys}
+use Rattle.std.proofs.lemmas.Bool.{eqb-true, false≢true}
 use Rattle.shard_disk.specs.Crash.{Follows, Leaves, Same}
-use Rattle.shard_disk.specs.Directory.{Directory, ChangesAt, Step}
+use Rattle.shard_disk.specs.Directory.{Directory, ChangesAt, IsPresent, Step, Vanishes}
 use Rattle.shard_disk.specs.HandedOut.{HandedOut, GivesUp}
 use Rattle.shard_disk.specs.declared.disk.Disk.{Ghosts}
 use Rattle.shard_disk.proofs.Runs.{NoneBefore, joins, rests, starts, weakens}
-use Rattle.shard_recover.specs.Opening.{IsAmong, Removes, Spares}
+use Rattle.shard_recover.specs.Opening.{HasOnly, IsAmong, LeavesOne, Removes, Spares}
+use Rattle.shard_recover.proofs.FileLemmas.{among}
 
 -- a file that isn't one of these is another than each of them
 pub other : (keep : List ℕ) (number n : ℕ) → list_any (λ y. nat_eq y number) keep ≡ false → IsAmong keep n → n ≢ number
@@ -55,3 +56,47 @@ removes_same g keep old new same run handed = record {
   readers = ap (λ (h : HandedOut). h.readers) handed;
   next = ap (λ (h : HandedOut). h.next_number) handed;
 }
+
+-- ---- what is gone
+
+nothing_there : (o : Option (List ℕ)) → o ≡ None → IsSome o → ⊥
+nothing_there o none some = subst (λ (x : Option (List ℕ)). IsSome x → ⊥) (sym none) (λ e. false≢true e) some
+
+pub leaves_kept : (keep : List ℕ) (number : ℕ) (files : Directory) → IsAmong keep number → LeavesOne keep number files files
+leaves_kept keep number files among = record { others = λ n there. there; here = λ there. among }
+
+pub leaves_gone : (keep : List ℕ) (number : ℕ) (old new : Directory) → ChangesAt number Vanishes old new → LeavesOne keep number old new
+leaves_gone keep number old new made = record {
+  others = λ n there. subst (λ (o : Option (List ℕ)). IsSome o) (made.others n (λ is. nothing_there (get new number) made.here (subst (λ (k : ℕ). IsPresent new k) is there))) there;
+  here = λ there. absurd (nothing_there (get new number) made.here there);
+}
+
+pub drop_at : (numbers : List ℕ) (k d : ℕ) → k < length numbers → drop k numbers ≡ get_or numbers k d ∷ drop (k + 1) numbers
+drop_at [] k d within = absurd (omega (arith, within))
+drop_at (x ∷ numbers) zero d within = refl
+drop_at (x ∷ numbers) (suc k) d within =
+    let same : suc (k + 1) ≡ suc k + 1 = omega arith in
+    drop_at numbers k d (omega (arith, within)) ∙ ap (λ (n : ℕ). get_or numbers k d ∷ drop n (x ∷ numbers)) same
+
+-- of the files that are there each is to be kept, or is one of those that are still looked at
+abbrev pub Sweeps : List ℕ → List ℕ → Directory → Type 0
+Sweeps keep left files = (n : ℕ) → IsPresent files n → IsAmong keep n ⊎ IsAmong left n
+
+pub sweeps_first : (keep numbers : List ℕ) (files : Directory) → numbers ≡ keys files → Sweeps keep numbers files
+sweeps_first keep numbers files are n there = inr (subst (λ (l : List ℕ). IsAmong l n) (sym are) (among files n there))
+
+or_cases : (a b : Bool) → (a || b) ≡ true → (a ≡ true) ⊎ (b ≡ true)
+or_cases true b e = inl refl
+or_cases false b e = inr e
+
+pub sweeps_more : (keep : List ℕ) (number : ℕ) (left : List ℕ) (old new : Directory) → LeavesOne keep number old new → Sweeps keep (number ∷ left) old → Sweeps keep left new
+sweeps_more keep number left old new one so n there = ⊎_elim
+    (λ kept. inl kept)
+    (λ among. ⊎_elim
+        (λ is. let same : number ≡ n = eqb-true number n is in inl (subst (IsAmong keep) same (one.here (subst (IsPresent new) (sym same) there))))
+        (λ rest. inr rest)
+        (or_cases (nat_eq number n) (list_any (λ y. nat_eq y n) left) among))
+    (so n (one.others n there))
+
+pub sweeps_all : (keep : List ℕ) (files : Directory) → Sweeps keep [] files → HasOnly keep files
+sweeps_all keep files so n there = ⊎_elim (λ kept. kept) (λ none. absurd (false≢true none)) (so n there)

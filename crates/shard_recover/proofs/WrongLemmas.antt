@@ -44,7 +44,7 @@ pub record Cut (files : Directory) (before : List ℕ) (file : ℕ) (all : List 
   pub have : HasSegments files before earlier
   pub is : HasFile files file (IsSegment here)
 
-cut : (files : Directory) (before : List ℕ) (file : ℕ) (others : List ℕ) (all : List (List Logged)) → HasSegments files (before ++ file ∷ others) all → Cut files before file all
+pub cut : (files : Directory) (before : List ℕ) (file : ℕ) (others : List ℕ) (all : List (List Logged)) → HasSegments files (before ++ file ∷ others) all → Cut files before file all
 cut files [] file others [] had = absurd had
 cut files [] file others (l ∷ all) had = record { earlier = []; here = l; later = all; parts = refl; have = tt; is = had.0 }
 cut files (b ∷ before) file others [] had = absurd had
@@ -52,38 +52,12 @@ cut files (b ∷ before) file others (l ∷ all) had =
     let more = cut files before file others all had.1 in
     record { earlier = l ∷ more.earlier; here = more.here; later = more.later; parts = ap (λ (x : List (List Logged)). l ∷ x) more.parts; have = (had.0, more.have); is = more.is }
 
-joined_cut : (earlier : List (List Logged)) (here : List Logged) (later : List (List Logged)) → joined (earlier ++ here ∷ later) ≡ (joined earlier ++ here) ++ joined later
+pub joined_cut : (earlier : List (List Logged)) (here : List Logged) (later : List (List Logged)) → joined (earlier ++ here ∷ later) ≡ (joined earlier ++ here) ++ joined later
 joined_cut earlier here later = flat_map-append (λ (x : List Logged). x) earlier (here ∷ later) ∙ sym (append_assoc (joined earlier) here (joined later))
-
--- segments whose entries are counted aren't wrong, and none at their front is
-pub never_wrong_front : (damage : Damage) (floor : ℕ) (files : Directory) (segments others : List ℕ) (all : List (List Logged)) → HasSegments files (segments ++ others) all → AreCounted floor (joined all) → IsWrong damage floor files segments → ⊥
-never_wrong_front damage floor files segments others all had counted wrong =
-    let parts : segments ++ others ≡ wrong.sound ++ wrong.wrong_file ∷ (wrong.others ++ others) = ap (λ (s : List ℕ). s ++ others) wrong.parts ∙ append_assoc wrong.sound (wrong.wrong_file ∷ wrong.others) others in
-    let c = cut files wrong.sound wrong.wrong_file (wrong.others ++ others) all (subst (λ (s : List ℕ). HasSegments files s all) parts had) in
-    let same : wrong.logged ≡ c.earlier = segments_once files wrong.sound wrong.logged c.earlier wrong.have c.have in
-    let front : AreCounted floor (joined c.earlier ++ c.here) = counted_front floor (joined c.earlier ++ c.here) (joined c.later) (subst (AreCounted floor) (ap joined c.parts ∙ joined_cut c.earlier c.here c.later) counted) in
-    both (IsSegment c.here) (IsWrongSegment damage wrong.wrong_file floor (joined c.earlier)) files wrong.wrong_file c.is
-    (subst (λ (l : List (List Logged)). HasFile files wrong.wrong_file (IsWrongSegment damage wrong.wrong_file floor (joined l))) same wrong.wrong)
-    (λ bytes is bad. never_wrong damage wrong.wrong_file floor (joined c.earlier) c.here bytes is front bad)
 
 there : (P : List ℕ → Type 0) (o : Option (List ℕ)) → IsSomeAnd o P → IsSome o
 there P None had = absurd had
 there P (Some bytes) had = refl
-
--- each segment is there
-pub segments_there : (files : Directory) (segments : List ℕ) (logged : List (List Logged)) → HasSegments files segments logged → AllByRecursion (IsPresent files) segments
-segments_there files [] logged had = tt
-segments_there files (file ∷ segments) [] had = absurd had
-segments_there files (file ∷ segments) (l ∷ logged) had = (there (IsSegment l) (get files file) had.0, segments_there files segments logged had.1)
-
-pub all_at : (P : ℕ → Type 0) (xs : List ℕ) (k d : ℕ) → k < length xs → AllByRecursion P xs → P (get_or xs k d)
-all_at P [] k d within all = absurd (omega (arith, within))
-all_at P (x ∷ xs) zero d within all = all.0
-all_at P (x ∷ xs) (suc k) d within all = all_at P xs k d (omega (arith, within)) all.1
-
--- a list in two parts
-pub two_parts : (k : ℕ) (xs ys front back : List ℕ) → ys ≡ xs → front ≡ take k ys → back ≡ drop k ys → xs ≡ front ++ back
-two_parts k xs ys front back same is_front is_back = sym same ∙ sym (take-append-drop k ys) ∙ (λ i. sym is_front i ++ sym is_back i)
 
 pub had_by_files : (files : Directory) (file : ℕ) (P : List ℕ → Type 0) → HasFile files file P → IsPresent files file
 had_by_files files file P had = there P (get files file) had

@@ -1,10 +1,18 @@
-//! Opening a directory: its logs are read, or made where it is new, and what the manifest doesn't name is removed.
+//! Opening a directory: its manifest and its series file are read, or made where it is new; and once its entries are taken in, the files
+//! that the manifest doesn't name are removed and the logs are joined.
 #![tactic(auto)]
 
-mod named;
-mod opening;
+mod beginning;
+mod joining;
+mod laws;
+mod new;
 mod parts;
 mod present;
 mod sweep;
 
-pub use opening::{Opened, open};
+pub use beginning::begin;
+pub use joining::join;
+pub use laws::{one_damage, sound_directories_are_undamaged};
+pub use new::open_new;
+pub use parts::{Begun, Parts};
+pub use present::{is_there, missing};

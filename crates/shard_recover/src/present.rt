@@ -1,17 +1,16 @@
 // Which files are there?
-ghost use Rattle.std.specs.Prelude.{◌≡◌, ◌≢◌, ◌<◌, ◌≤◌, Err, IsTrue, IfOk, length, take, get_or};
+ghost use Rattle.std.specs.Prelude.{◌≡◌, Err, IsTrue, IfOk};
 ghost use Rattle.std.specs.FinMap.{keys};
-ghost use Rattle.std.specs.List.{AllByRecursion};
 ghost use Rattle.shard_disk.specs.Crash.{Leaves, Same};
 ghost use Rattle.shard_disk.specs.Directory.{Directory as Files, IsPresent};
 ghost use Rattle.shard_disk.specs.declared.damage.Damage.{Damage};
 ghost use Rattle.gate_log.specs.Faults.{LogHasCause};
 
 use gate_log::LogFault;
-use shard_disk::Disk;
+use shard_disk::{Damage, Disk, Why};
 
 /// The numbers of the files that are there.
-pub fn list<D: Disk>(disk: &mut D) -> Result<Vec<u32>, LogFault>
+pub(crate) fn list<D: Disk>(disk: &mut D) -> Result<Vec<u32>, LogFault>
     ensures ok { IfOk result (λ numbers. IsTrue D.tells → numbers.items ≡ keys (D.files disk.old)) }
     ensures undamaged { (damage : Damage) → result ≡ Err (LogFault.Damaged damage) → ⊥ }
     ensures fault { LogHasCause result (D.health disk.old) (D.health disk.new) }
@@ -31,18 +30,13 @@ pub fn is_there(numbers: &[u32], file: u32) -> bool
     numbers.contains(&file)
 }
 
-/// How many files at the front are there.
-pub fn leading(numbers: &[u32], files: &[u32]) -> usize
-    ensures within { result ≤ length files.now }
-    ensures there { (disk : Files) → numbers.now ≡ keys disk → AllByRecursion (IsPresent disk) (take result files.now) }
-    ensures missing { (disk : Files) → numbers.now ≡ keys disk → result < length files.now → IsPresent disk (get_or files.now result 0) → ⊥ }
+/// The file is missing, which is told at its beginning.
+pub fn missing(file: u32) -> LogFault
+    ensures { result ≡ LogFault.Damaged (record { file = file; offset = 0; why = Why.Missing }) }
 {
-    let mut count = 0;
-    for file in files {
-        if !is_there(numbers, *file) {
-            return count;
-        }
-        count += 1;
-    }
-    count
+    LogFault::Damaged(Damage {
+        file,
+        offset: 0,
+        why: Why::Missing,
+    })
 }

@@ -1,0 +1,91 @@
+ghost use Rattle.manifest_log.specs.Calls.{HasNoReader};
+
+use crate::engines::{SCRIPT, Seen, after, run};
+use mem_disk::MemDisk;
+use shard_disk::{Damage, Disk, Why};
+use shard_opening::OpenFault;
+use shard_recover::is_there;
+use shard_steps::Settings;
+use std::test::Fail;
+
+// A disk with the three entries of the script, as it is opened again: file 1 has two records of a series each, the second at 18, and
+// file 2 the three entries, the second at 55.
+fn written(rt: &HostRuntime) -> Option<MemDisk> {
+    let alloc = rt.alloc();
+    let (disk, _) = run(
+        rt,
+        MemDisk::new(alloc, Vec::new(alloc)),
+        Settings::usual(),
+        &SCRIPT,
+    );
+    disk.image(&[]).ok()
+}
+
+// Another byte at a place of a file that is there.
+fn change<D: Disk>(disk: &mut D, no: u32, at: u64, byte: u8) -> Option<()>
+    requires { HasNoReader (D.handed_out disk.old) }
+    ensures { HasNoReader (D.handed_out disk.new) }
+{
+    let numbers = disk.list().ok()?;
+    if !is_there(&numbers, no) || disk.len(no).ok()? < at {
+        return None;
+    }
+    disk.write_at(no, at, &[byte]).ok()
+}
+
+// What opening shows where a byte is changed so.
+fn changed(rt: &HostRuntime, no: u32, at: u64, byte: u8) -> Option<Seen> {
+    let mut disk = written(rt)?;
+    change(&mut disk, no, at, byte)?;
+    Some(run(rt, disk, Settings::usual(), &[]).1)
+}
+
+// What opening shows where a file isn't there.
+fn without(rt: &HostRuntime, no: u32) -> Option<Seen> {
+    let mut disk = written(rt)?;
+    disk.remove(no).ok()?;
+    Some(run(rt, disk, Settings::usual(), &[]).1)
+}
+
+fn refused(file: u32, offset: u64, why: Why) -> Option<Seen> {
+    Some(Seen::Refused(OpenFault::Damaged(Damage { file, offset, why })))
+}
+
+#[test]
+fn a_changed_byte_is_told_at_its_record(rt: HostRuntime) -> Result<(), Fail> {
+    let seen = changed(&rt, 2, 9, 0xFF);
+    let told = matches!(
+        seen,
+        Some(Seen::Refused(OpenFault::Damaged(Damage {
+            file: 2,
+            offset: 5,
+            why: Why::Sum {
+                stored: _,
+                computed: _,
+            },
+        })))
+    );
+    assert!(rt; told);
+    Ok(())
+}
+
+#[test]
+fn a_missing_file_is_told_where_it_is_read(rt: HostRuntime) -> Result<(), Fail> {
+    assert_eq!(rt; without(&rt, 0), refused(0, 0, Why::NoManifest));
+    assert_eq!(rt; without(&rt, 1), refused(1, 0, Why::Missing));
+    assert_eq!(rt; without(&rt, 2), refused(2, 0, Why::Missing));
+    Ok(())
+}
+
+#[test]
+fn an_entry_without_its_series_is_told_at_its_gate(rt: HostRuntime) -> Result<(), Fail> {
+    assert_eq!(rt; changed(&rt, 1, 0, 0), refused(2, 0, Why::Body));
+    assert_eq!(rt; changed(&rt, 1, 18, 0), refused(2, 55, Why::Body));
+    Ok(())
+}
+
+#[test]
+fn entries_behind_a_closed_gate_are_gone(rt: HostRuntime) -> Result<(), Fail> {
+    assert_eq!(rt; changed(&rt, 2, 55, 0), Some(Seen::all(None, after(1))));
+    Ok(())
+}
