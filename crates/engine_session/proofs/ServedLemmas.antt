@@ -23,7 +23,7 @@ use Rattle.shard_state.specs.Books.{state_in}
 use Rattle.shard_state.specs.Calls.{Closes}
 use Rattle.shard_state.specs.History.{AreKept, StandsForPrefix}
 use Rattle.shard_state.specs.Meaning.{Stands, StandsWithAtMost}
-use Rattle.shard_state.specs.Opening.{IsSoundThroughout}
+use Rattle.shard_state.specs.Opening.{IsSoundAtOpening, IsSoundThroughout, IsSoundWithAtMost}
 use Rattle.gate_log.proofs.Results.{on_ok_then}
 use Rattle.shard_state.proofs.Entering.{on_err_then}
 use Rattle.shard_calls.specs.Holds.{HasRun}
@@ -132,10 +132,14 @@ module _ {D R W : Type 0} (g : Ghosts D R W) (start : State) (since : ℕ) (hist
     each = each;
     kept = kept;
     now = λ c now. subst (λ (s : State). Stands c s) state_is (sound.images c now);
+    again = subst (λ (s : State). IsSoundAtOpening g disk s) state_is sound.sound;
     exactly = exactly;
   }
 
-  lasts_err : ((c : Directory) → (g.crashes disk).now c → StandsWithAtMost (state_in ran.runs.logs.books) (option_to_list ran.doubt) c) → OnOk closed (IsSoundThroughout g disk (state_after start history)) → Lasts g disk since start history closed
+  abbrev Left : Type 0
+  Left = IsSoundWithAtMost g disk (state_in ran.runs.logs.books) (option_to_list ran.doubt) × ((c : Directory) → (g.crashes disk).now c → StandsWithAtMost (state_in ran.runs.logs.books) (option_to_list ran.doubt) c)
+
+  lasts_err : Left → OnOk closed (IsSoundThroughout g disk (state_after start history)) → Lasts g disk since start history closed
   lasts_err left exactly = record {
     made = ran.made;
     are = ran.are;
@@ -144,15 +148,13 @@ module _ {D R W : Type 0} (g : Ghosts D R W) (start : State) (since : ℕ) (hist
     asked = ran.runs.logs.asked;
     each = each;
     kept = kept;
-    now = λ c now. subst (λ (s : State). StandsWithAtMost s (option_to_list ran.doubt) c) state_is (left c now);
+    now = λ c now. subst (λ (s : State). StandsWithAtMost s (option_to_list ran.doubt) c) state_is (left.1 c now);
+    again = subst (λ (s : State). IsSoundWithAtMost g disk s (option_to_list ran.doubt)) state_is left.0;
     exactly = exactly;
   }
 
   abbrev Sound : Type 0
   Sound = IsSoundThroughout g disk (state_in ran.runs.logs.books)
-
-  abbrev Left : Type 0
-  Left = (c : Directory) → (g.crashes disk).now c → StandsWithAtMost (state_in ran.runs.logs.books) (option_to_list ran.doubt) c
 
   lasts_either : (r : Result (Unit {0}) Trouble) → closed ≡ r → OnOk r Sound → OnErr r Left → Lasts g disk since start history closed
   lasts_either (Ok x) is ok err =
@@ -161,7 +163,7 @@ module _ {D R W : Type 0} (g : Ghosts D R W) (start : State) (since : ℕ) (hist
 
   pub lasts : Lasts g disk since start history closed
   lasts = lasts_either closed refl (on_ok_then closed (λ ok. ok told ran.runs.logs.books ran.doubt ran.runs.logs.holds) closes.ok)
-      (on_err_then closed (λ err. let left = err told ran.runs.logs.books ran.doubt ran.runs.logs.holds in left.1) closes.refused)
+      (on_err_then closed (λ err. err told ran.runs.logs.books ran.doubt ran.runs.logs.holds) closes.refused)
 
 -- ---- both
 

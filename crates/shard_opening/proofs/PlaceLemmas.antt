@@ -54,9 +54,9 @@ same_front xs ys x y is =
     ⊎_elim
     (λ one. one.0)
     (λ apart. absurd (⊎_elim
-        (λ first. omega (arith, long, ap length first.1 ∙ length-append xs (x ∷ first.0)))
-        (λ second. omega (arith, long, ap length second.1 ∙ length-append ys (y ∷ second.0)))
-        apart))
+    (λ first. omega (arith, long, ap length first.1 ∙ length-append xs (x ∷ first.0)))
+    (λ second. omega (arith, long, ap length second.1 ∙ length-append ys (y ∷ second.0)))
+    apart))
     (two_cuts xs x [] ys y [] is)
 
 module _ (tells : Type 0) (told : tells) (series : List (List ℕ)) (floor : ℕ) (first : Replaying) (earlier : List (List Logged)) (files : Directory) (crashes crashes' : Crashes) (are : AreRead tells first earlier [] files crashes crashes') (same : first.floor ≡ floor)

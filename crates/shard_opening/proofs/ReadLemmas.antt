@@ -39,7 +39,10 @@ module _ {D R W : Type 0} (g : Ghosts D R W) (old mid : D) (begun : Begun) (b : 
       inr (begun.named, manifest_is told, inr (b.file, b.is, b.no_files, inr (inr (begun.series.keys, series_is told, inl (subst (λ (f : Directory). IsWrongLog damage begun.named.floor f begun.named.segments) same wrong)))))
 
   module _ (alloc : Global) (new : D) (wal : Segments) (filling : Filling) (same_mid : g.files mid ≡ g.files old) (same_new : g.files new ≡ g.files mid) (first : Leaves Same (g.crashes old) (g.crashes mid)) (second : Leaves Same (g.crashes mid) (g.crashes new))
-      (f : FillsAll (IsTrue g.tells) begun.series.keys begun.named.floor begun.named.segments wal filling (g.files new) (g.crashes mid) (g.crashes new)) where
+      (segments : List ℕ) (are : segments ≡ begun.named.segments) (filled : FillsAll (IsTrue g.tells) begun.series.keys begun.named.floor segments wal filling (g.files new) (g.crashes mid) (g.crashes new)) where
+    f : FillsAll (IsTrue g.tells) begun.series.keys begun.named.floor begun.named.segments wal filling (g.files new) (g.crashes mid) (g.crashes new)
+    f = subst (λ (l : List ℕ). FillsAll (IsTrue g.tells) begun.series.keys begun.named.floor l wal filling (g.files new) (g.crashes mid) (g.crashes new)) are filled
+
     abbrev parts : Parts
     parts = record { manifest = begun.manifest; named = begun.named; series = begun.series; wal = wal }
 
@@ -66,11 +69,24 @@ module _ {D R W : Type 0} (g : Ghosts D R W) (old mid : D) (begun : Begun) (b : 
     entry_refused place damage refused is told =
         let r = f.replays in
         subst (λ (d : Damage). IsFirstDamage d (g.files old)) (sym is)
-        (inr (begun.named, manifest_is told, inr (b.file, b.is, b.no_files, inr (inr (begun.series.keys, series_is told, inr (record {
-          logged = r.earlier ++ r.latest ∷ [];
-          have = subst (λ (d : Directory). HasSegments d begun.named.segments (r.earlier ++ r.latest ∷ [])) same
-              (replays_have (IsTrue g.tells) told begun.named.floor begun.named.segments wal f.entries (g.files new) (g.crashes mid) (g.crashes new) r);
-          counted = let holds = replays_hold (IsTrue g.tells) begun.named.floor begun.named.segments wal f.entries (g.files new) (g.crashes mid) (g.crashes new) r in holds.counted;
-          refuses = subst (λ (d : Directory). RefusesAt begun.series.keys begun.named.floor d begun.named.segments place.file place.offset) same (f.refuses told place refused);
-          why = refl;
-        }))))))
+        (inr (
+          begun.named,
+          manifest_is told,
+          inr (
+            b.file,
+            b.is,
+            b.no_files,
+            inr (inr (
+              begun.series.keys,
+              series_is told,
+              inr (record {
+                logged = r.earlier ++ r.latest ∷ [];
+                have = subst (λ (d : Directory). HasSegments d begun.named.segments (r.earlier ++ r.latest ∷ [])) same
+                    (replays_have (IsTrue g.tells) told begun.named.floor begun.named.segments wal f.entries (g.files new) (g.crashes mid) (g.crashes new) r);
+                counted = let holds = replays_hold (IsTrue g.tells) begun.named.floor begun.named.segments wal f.entries (g.files new) (g.crashes mid) (g.crashes new) r in holds.counted;
+                refuses = subst (λ (d : Directory). RefusesAt begun.series.keys begun.named.floor d begun.named.segments place.file place.offset) same (f.refuses told place refused);
+                why = refl;
+              }),
+            )),
+          ),
+        ))

@@ -89,34 +89,32 @@ more_refuses series floor files files' segments more file offset same r =
       is = r.is;
     })
 
-pub more_filled : (tells : Type 0) (series : List (List ℕ)) (floor file : ℕ) (segments : List ℕ) (old open_ closed : Replaying) (filled mid new : Filling) (files files' : Directory) (crashes middle crashes' : Crashes) → files' ≡ files → Leaves Same crashes middle → Leaves Same middle crashes'
-    → mid ≡ filled → open_ ≡ record { floor = old.floor; wal = with_segment old.wal open_.wal.log; left = open_.left; gate = 0 } → ReadsLog tells file open_.wal.log open_.left files' middle crashes' → Fills series open_ closed open_.left mid new → closed.left ≡ []
-    → AreFilled tells series floor segments old filled files crashes middle → AreFilled tells series floor (segments ++ file ∷ []) closed new files' crashes crashes'
-more_filled tells series floor file segments old open_ closed filled mid new files files' crashes middle crashes' same first second still is log f none before =
+pub more_filled : (tells : Type 0) (series : List (List ℕ)) (floor file : ℕ) (segments : List ℕ) (old open_ closed : Replaying) (mid new : Filling) (files files' : Directory) (crashes middle crashes' : Crashes) → files' ≡ files → Leaves Same crashes middle → Leaves Same middle crashes'
+    → open_ ≡ record { floor = old.floor; wal = with_segment old.wal open_.wal.log; left = open_.left; gate = 0 } → ReadsLog tells file open_.wal.log open_.left files' middle crashes' → Fills series open_ closed open_.left mid new → closed.left ≡ []
+    → AreFilled tells series floor segments old mid files crashes middle → AreFilled tells series floor (segments ++ file ∷ []) closed new files' crashes crashes'
+more_filled tells series floor file segments old open_ closed mid new files files' crashes middle crashes' same first second is log f none before =
     let b = before.all in
     let are = next_open tells file old open_ b.earlier b.here files files' crashes middle crashes' b.none same first second is log b.are in
     let from : open_.floor ≡ old.floor = ap (λ (r : Replaying). r.floor) is in
     let own : open_.wal.files ≡ segments ++ file ∷ [] = ap (λ (r : Replaying). r.wal.files) is ∙ (λ i. b.own i ++ log.file i ∷ []) in
     let so_far : before.entries ≡ entries_past floor (joined (b.earlier ++ b.here ∷ []) ++ []) =
     b.past_floor ∙ (λ i. entries_past (sym b.from i) (joined b.earlier ++ b.here)) ∙ sym (next_entries old open_ b.earlier b.here from) ∙ (λ i. entries_past ((from ∙ b.from) i) (joined (b.earlier ++ b.here ∷ []) ++ [])) in
-    let unrefused : mid.refused ≡ None → filled.refused ≡ None = λ not. sym (ap (λ (x : Filling). x.refused) still) ∙ not in
     record {
       entries = before.entries ++ f.given;
       all = more_whole tells floor file segments old open_ closed before.entries (before.entries ++ f.given) files files' crashes middle crashes' same first second is log (takes_all series open_ closed mid new before.entries f none) b;
       taken = λ all.
           let t = f.taken all in
-          let had = before.taken (unrefused t.0) in
-          let points : mid.live.points ≡ after no_points before.entries = ap (λ (x : Filling). x.live.points) still ∙ had.1 in (
-            taken_both series no_points before.entries f.given had.0 (subst (λ (p : Points). AreTaken series p f.given) points t.1),
-            t.2 ∙ ap (λ (p : Points). after p f.given) points ∙ sym (after_both no_points before.entries f.given),
+          let had = before.taken t.0 in (
+            taken_both series no_points before.entries f.given had.0 (subst (λ (p : Points). AreTaken series p f.given) had.1 t.1),
+            t.2 ∙ ap (λ (p : Points). after p f.given) had.1 ∙ sym (after_both no_points before.entries f.given),
           );
       refuses = λ told place refused. ⊎_elim
-          (λ had. more_refuses series floor files files' segments (file ∷ []) place.file place.offset same (before.refuses told place (sym (ap (λ (x : Filling). x.refused) still) ∙ had)))
+          (λ had. more_refuses series floor files files' segments (file ∷ []) place.file place.offset same (before.refuses told place had))
           (λ here.
-          let had = before.taken (unrefused here.0) in
+          let had = before.taken here.0 in
           subst (λ (l : List ℕ). RefusesAt series floor files' l place.file place.offset) (append-nil open_.wal.files ∙ own)
           (refuses_at tells told series floor open_ (b.earlier ++ b.here ∷ []) files' crashes crashes' are (from ∙ b.from) mid.live.points
-          (subst (AreTaken series no_points) so_far had.0) (ap (λ (x : Filling). x.live.points) still ∙ had.1 ∙ ap (after no_points) so_far) place here.1 []))
+          (subst (AreTaken series no_points) so_far had.0) (had.1 ∙ ap (after no_points) so_far) place here.1 []))
           (f.refuses place refused);
     }
 

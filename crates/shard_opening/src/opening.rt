@@ -129,7 +129,14 @@ fn read_all<D: Disk>(
     } = begun;
     let segments = named.segments.as_slice();
     let wal = fill_all(
-        alloc, seed, disk, &series, &numbers, segments, named.floor, filling,
+        alloc,
+        seed,
+        disk,
+        &series,
+        &numbers,
+        segments,
+        named.floor,
+        filling,
     )?;
     all_taken(filling)?;
     Ok(Some(Parts {

@@ -13,9 +13,9 @@ one_more : {X : Type 0} (u w : X) (xs : List X) (x : X) (zs : List X) (z : X) �
 one_more u w xs x zs z head cuts = ⊎_elim
     (λ same. inl ((λ i. head i ∷ same.0 i), same.1))
     (λ apart. inr (⊎_elim
-        (λ before. inl (before.0, (λ i. sym head i ∷ before.1 i)))
-        (λ behind. inr (behind.0, (λ i. head i ∷ behind.1 i)))
-        apart))
+    (λ before. inl (before.0, (λ i. sym head i ∷ before.1 i)))
+    (λ behind. inr (behind.0, (λ i. head i ∷ behind.1 i)))
+    apart))
     cuts
 
 pub two_cuts : {X : Type 0} (xs : List X) (x : X) (ys : List X) (zs : List X) (z : X) (ws : List X) → xs ++ x ∷ ys ≡ zs ++ z ∷ ws → AreCuts xs x zs z

@@ -54,7 +54,7 @@ module _ (some other : Damage) (floor : ℕ) (files : Directory) (segments : Lis
   same_file x y file logged p q = ⊎_elim
       (λ gone. ⊎_elim (λ lost. same_told x y _ gone.told lost.told) (λ wrong. absurd (gone.gone (had_by_files files file _ wrong))) q)
       (λ wrong. ⊎_elim (λ lost. absurd (lost.gone (had_by_files files file _ wrong)))
-          (λ bad. both (IsWrongSegment x file floor (joined logged)) (IsWrongSegment y file floor (joined logged)) files file wrong bad (λ bytes m n. segment_once.one_wrong x y file floor (joined logged) bytes m n)) q)
+      (λ bad. both (IsWrongSegment x file floor (joined logged)) (IsWrongSegment y file floor (joined logged)) files file wrong bad (λ bytes m n. segment_once.one_wrong x y file floor (joined logged) bytes m n)) q)
       p
 
   same_place : a.sound ≡ b.sound → a.wrong_file ≡ b.wrong_file → some ≡ other
@@ -66,9 +66,9 @@ module _ (some other : Damage) (floor : ℕ) (files : Directory) (segments : Lis
   one_wrong_log = ⊎_elim
       (λ one. same_place one.0 one.1)
       (λ apart. absurd (⊎_elim
-          (λ first. never_within some floor files segments a first.0 b.logged (subst (λ (s : List ℕ). HasSegments files s b.logged) first.1 b.have) b.counted)
-          (λ second. never_within other floor files segments b second.0 a.logged (subst (λ (s : List ℕ). HasSegments files s a.logged) second.1 a.have) a.counted)
-          apart))
+      (λ first. never_within some floor files segments a first.0 b.logged (subst (λ (s : List ℕ). HasSegments files s b.logged) first.1 b.have) b.counted)
+      (λ second. never_within other floor files segments b second.0 a.logged (subst (λ (s : List ℕ). HasSegments files s a.logged) second.1 a.have) a.counted)
+      apart))
       (two_cuts a.sound a.wrong_file a.others b.sound b.wrong_file b.others (sym a.parts ∙ b.parts))
 
 -- ---- an entry
@@ -101,14 +101,14 @@ never_found damage series file files wrong found = both (IsSeriesFile series) (I
 one_named : (some other : Damage) (named : Named) (file : ℕ) (files : Directory) → IsWrongNamed some named file files → IsWrongNamed other named file files → some ≡ other
 one_named some other named file files a b = ⊎_elim
     (λ gone. ⊎_elim (λ lost. same_told some other _ gone.told lost.told)
-        (λ there. absurd (⊎_elim (λ wrong. gone.gone (had_by_files files file _ wrong)) (λ found. gone.gone (had_by_files files file _ found.1)) there)) b)
+    (λ there. absurd (⊎_elim (λ wrong. gone.gone (had_by_files files file _ wrong)) (λ found. gone.gone (had_by_files files file _ found.1)) there)) b)
     (λ there. ⊎_elim
-        (λ wrong. ⊎_elim (λ lost. absurd (lost.gone (had_by_files files file _ wrong)))
-            (λ too. ⊎_elim (λ bad. both (IsWrongSeries file some) (IsWrongSeries file other) files file wrong bad (λ bytes x y. series_once.one_wrong bytes file some other x y))
-                (λ found. absurd (never_found some found.0 file files wrong found.1)) too) b)
-        (λ found. ⊎_elim (λ lost. absurd (lost.gone (had_by_files files file _ found.1)))
-            (λ too. ⊎_elim (λ bad. absurd (never_found other found.0 file files bad found.1)) (λ again. one_found some other named file files found again) too) b)
-        there)
+    (λ wrong. ⊎_elim (λ lost. absurd (lost.gone (had_by_files files file _ wrong)))
+    (λ too. ⊎_elim (λ bad. both (IsWrongSeries file some) (IsWrongSeries file other) files file wrong bad (λ bytes x y. series_once.one_wrong bytes file some other x y))
+    (λ found. absurd (never_found some found.0 file files wrong found.1)) too) b)
+    (λ found. ⊎_elim (λ lost. absurd (lost.gone (had_by_files files file _ found.1)))
+    (λ too. ⊎_elim (λ bad. absurd (never_found other found.0 file files bad found.1)) (λ again. one_found some other named file files found again) too) b)
+    there)
     a
 
 -- ---- the manifest
@@ -124,14 +124,14 @@ one_form : (some other : Damage) (named : Named) (files : Directory) → Behind 
 one_form some other named files a b = ⊎_elim
     (λ none. ⊎_elim (λ nor. same_told some other _ none.told nor.told) (λ wrong. absurd (formed some named wrong.0 none wrong.1 wrong.2)) b)
     (λ wrong. ⊎_elim (λ nor. absurd (formed other named wrong.0 nor wrong.1 wrong.2))
-        (λ too. one_named some other named too.0 files (subst (λ (n : ℕ). IsWrongNamed some named n files) (some_one named.series wrong.0 too.0 wrong.1 too.1) wrong.3) too.3) b)
+    (λ too. one_named some other named too.0 files (subst (λ (n : ℕ). IsWrongNamed some named n files) (some_one named.series wrong.0 too.0 wrong.1 too.1) wrong.3) too.3) b)
     a
 
 pub one_damage : (files : Directory) (some other : Damage) → IsFirstDamage some files → IsFirstDamage other files → some ≡ other
 one_damage files some other a b = ⊎_elim
     (λ wrong. ⊎_elim (λ bad. cc (one_reading files (Err some) (Err other) wrong bad)) (λ named. absurd (cc (one_reading files (Err some) (Ok (Some named.0)) wrong named.1))) b)
     (λ named. ⊎_elim (λ bad. absurd (cc (one_reading files (Ok (Some named.0)) (Err other) named.1 bad)))
-        (λ too.
-        let same : named.0 ≡ too.0 = both (IsManifest named.0) (IsManifest too.0) files manifest named.1 too.1 (λ bytes x y. one_manifest bytes named.0 too.0 x y) in
-        one_form some other too.0 files (subst (λ (n : Named). Behind some n files) same named.2) too.2) b)
+    (λ too.
+    let same : named.0 ≡ too.0 = both (IsManifest named.0) (IsManifest too.0) files manifest named.1 too.1 (λ bytes x y. one_manifest bytes named.0 too.0 x y) in
+    one_form some other too.0 files (subst (λ (n : Named). Behind some n files) same named.2) too.2) b)
     a

@@ -112,16 +112,16 @@ module _ (series : List (List ℕ)) (floor : ℕ) (files : Directory) (segments 
       ⊎_elim
       (λ one. (same, a.stands.gate ∙ ap (λ (r : List (List ℕ)). length (spelled r)) one.0 ∙ sym b.stands.gate))
       (λ apart. absurd (⊎_elim
-          (λ first. later_record file offset other_file other_offset a b first.0 whole first.1)
-          (λ second. later_record other_file other_offset file offset b a second.0 (sym whole) second.1)
-          apart))
+      (λ first. later_record file offset other_file other_offset a b first.0 whole first.1)
+      (λ second. later_record other_file other_offset file offset b a second.0 (sym whole) second.1)
+      apart))
       (two_cuts a.stands.records a.stands.body a.stands.behind b.stands.records b.stands.body b.stands.behind records)
 
   pub one_place : (file offset other_file other_offset : ℕ) → RefusesAt series floor files segments file offset → RefusesAt series floor files segments other_file other_offset → IsOne file offset other_file other_offset
   one_place file offset other_file other_offset a b = ⊎_elim
       (λ one. same_segment file offset other_file other_offset a b one.0 one.1)
       (λ apart. absurd (⊎_elim
-          (λ first. later_segment file offset other_file other_offset a b first.0 first.1)
-          (λ second. later_segment other_file other_offset file offset b a second.0 second.1)
-          apart))
+      (λ first. later_segment file offset other_file other_offset a b first.0 first.1)
+      (λ second. later_segment other_file other_offset file offset b a second.0 second.1)
+      apart))
       (two_cuts a.stands.earlier file a.stands.later b.stands.earlier other_file b.stands.later (sym a.stands.parts ∙ b.stands.parts))

@@ -48,11 +48,11 @@ pub one_state : (files : Directory) (some other : State) (series others : List (
 one_state files some other series others a b = ⊎_elim
     (λ fresh. ⊎_elim (λ blank. (fresh.1 ∙ sym blank.1, fresh.2 ∙ sym blank.2)) (λ read. absurd (fresh_unnamed files read.meaning.named fresh.0 read.says.manifest)) b)
     (λ read. ⊎_elim (λ blank. absurd (fresh_unnamed files read.meaning.named blank.0 read.says.manifest))
-        (λ again.
-        let same = one_meaning files read.meaning again.meaning read.says again.says read.sound again.sound in (
-          read.is ∙ ap (λ (m : Meaning). state_of m) same ∙ sym again.is,
-          read.series_are ∙ ap (λ (m : Meaning). m.series) same ∙ sym again.series_are,
-        )) b)
+    (λ again.
+    let same = one_meaning files read.meaning again.meaning read.says again.says read.sound again.sound in (
+      read.is ∙ ap (λ (m : Meaning). state_of m) same ∙ sym again.is,
+      read.series_are ∙ ap (λ (m : Meaning). m.series) same ∙ sym again.series_are,
+    )) b)
     a
 
 -- ---- nothing is wrong
@@ -83,11 +83,11 @@ module _ (files : Directory) (m : Meaning) (says : Says files m) (sound : IsSoun
       let had = some_at (λ n. HasFile files n (IsSeriesFile m.series)) m.named.series file is says.series in
       ⊎_elim (λ gone. gone.gone (had_by_files files file (IsSeriesFile m.series) had))
       (λ there. ⊎_elim
-          (λ bad. both (IsSeriesFile m.series) (IsWrongSeries file damage) files file had bad (λ bytes x y. series_once.never_wrong bytes file m.series damage x y))
-          (λ found.
-          let same : found.0 ≡ m.series = both (IsSeriesFile found.0) (IsSeriesFile m.series) files file found.1 had (λ bytes x y. series_once.one_file bytes found.0 m.series x y) in
-          not_behind (subst (λ (s : List (List ℕ)). IsWrongBehind damage m.named s files) same found.2))
-          there)
+      (λ bad. both (IsSeriesFile m.series) (IsWrongSeries file damage) files file had bad (λ bytes x y. series_once.never_wrong bytes file m.series damage x y))
+      (λ found.
+      let same : found.0 ≡ m.series = both (IsSeriesFile found.0) (IsSeriesFile m.series) files file found.1 had (λ bytes x y. series_once.one_file bytes found.0 m.series x y) in
+      not_behind (subst (λ (s : List (List ℕ)). IsWrongBehind damage m.named s files) same found.2))
+      there)
       wrong
 
   abbrev Behind : Named → Type 0

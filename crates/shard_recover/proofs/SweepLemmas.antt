@@ -93,9 +93,9 @@ pub sweeps_more : (keep : List ℕ) (number : ℕ) (left : List ℕ) (old new : 
 sweeps_more keep number left old new one so n there = ⊎_elim
     (λ kept. inl kept)
     (λ among. ⊎_elim
-        (λ is. let same : number ≡ n = eqb-true number n is in inl (subst (IsAmong keep) same (one.here (subst (IsPresent new) (sym same) there))))
-        (λ rest. inr rest)
-        (or_cases (nat_eq number n) (list_any (λ y. nat_eq y n) left) among))
+    (λ is. let same : number ≡ n = eqb-true number n is in inl (subst (IsAmong keep) same (one.here (subst (IsPresent new) (sym same) there))))
+    (λ rest. inr rest)
+    (or_cases (nat_eq number n) (list_any (λ y. nat_eq y n) left) among))
     (so n (one.others n there))
 
 pub sweeps_all : (keep : List ℕ) (files : Directory) → Sweeps keep [] files → HasOnly keep files

@@ -96,4 +96,4 @@ abbrev pub IsFirstDamage : Damage → Directory → Type 0
 IsFirstDamage damage files =
     Reads files (Err damage)
     ⊎ ((named : Named) × HasFile files manifest (IsManifest named)
-      × (HasNoForm damage named ⊎ ((file : ℕ) × (named.series ≡ Some file) × (named.files ≡ []) × IsWrongNamed damage named file files)))
+    × (HasNoForm damage named ⊎ ((file : ℕ) × (named.series ≡ Some file) × (named.files ≡ []) × IsWrongNamed damage named file files)))

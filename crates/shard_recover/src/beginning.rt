@@ -22,11 +22,7 @@ use tsdb_types::Seed;
 /// # Errors
 ///
 /// `Damaged` names the first damage, where it is the manifest's or the series file's.
-pub fn begin<D: Disk>(
-    alloc: Global,
-    seed: Seed,
-    disk: &mut D,
-) -> Result<Option<Begun>, LogFault>
+pub fn begin<D: Disk>(alloc: Global, seed: Seed, disk: &mut D) -> Result<Option<Begun>, LogFault>
     ensures found { IfOk result (λ found. IfSome found (λ begun. IsBegun (IsTrue D.tells) begun (D.files disk.old) (D.crashes disk.old) (D.crashes disk.new))) }
     ensures none { IfOk result (λ found. IfNone found (IsTrue D.tells → IsFresh (D.files disk.old))) }
     ensures damaged { (damage : Damage) → result ≡ Err (LogFault.Damaged damage) → IsTrue D.tells → IsFirstDamage damage (D.files disk.old) }

@@ -8,7 +8,6 @@ use Rattle.gate_log.specs.declared.fault.LogFault.TheVariants.{Damaged}
 use Rattle.manifest_log.proofs.FollowLemmas.{if_some_at}
 use Rattle.shard_recover.specs.Damage.{IsWrongLog}
 use Rattle.shard_recover.proofs.FileLemmas.{same_then}
-use Rattle.shard_opening.specs.Filling.{FillsAll}
 use Rattle.shard_opening.proofs.ReadLemmas.{entry_refused, log_wrong, manifest_is, read_opens, read_ready, read_stands}
 use Rattle.shard_opening.proofs.opening.read_all.Goals as goal
 
@@ -33,9 +32,7 @@ returns-in_err-all_taken-clause-damaged g c = λ damage is told.
     let is_there : damage ≡ record { file = place.file; offset = place.offset; why = Body } = cc (same, refused.2) in
     let begun = c.in-Some.begun in
     let found = if_some_at _ c.in_ok-begun.field-0 c.in-Some.begun c.in-Some.is c.in_ok-begun.ensures.found in
-    let wal = c.in_ok-wal.wal in
-    let filled = subst (λ (l : List ℕ). FillsAll (IsTrue g.D.Disk.tells) begun.series.keys begun.named.floor l wal c.fill_all.new.filling (g.D.Disk.files c.fill_all.new.disk) (g.D.Disk.crashes c.begin.new.disk) (g.D.Disk.crashes c.fill_all.new.disk)) c.as_slice-segments.ensures c.in_ok-wal.ensures.filled in
-    entry_refused g.D.Disk c.args.disk.now c.begin.new.disk begun found c.args.alloc c.fill_all.new.disk wal c.fill_all.new.filling c.begin.ensures.files c.fill_all.ensures.files c.begin.ensures.crash c.fill_all.ensures.crash filled place damage refused.1 is_there told
+    entry_refused g.D.Disk c.args.disk.now c.begin.new.disk begun found c.args.alloc c.fill_all.new.disk c.in_ok-wal.wal c.fill_all.new.filling c.begin.ensures.files c.fill_all.ensures.files c.begin.ensures.crash c.fill_all.ensures.crash c.as_slice-segments.result.now c.as_slice-segments.ensures c.in_ok-wal.ensures.filled place damage refused.1 is_there told
 
 pub returns-in_err-all_taken-clause-crash : goal.returns-in_err-all_taken-clause-crash
 returns-in_err-all_taken-clause-crash g c = same_then _ (g.D.Disk.crashes c.begin.new.disk) _ c.begin.ensures.crash c.fill_all.ensures.crash
@@ -45,19 +42,15 @@ returns-clause-opens g c =
     let laws = g.met.D.Disk g.world.𝓛 g.world.𝓜 g.world.𝓡 ((λ s x. x), (λ x. x), (λ x. x), (λ x. x)) in
     let begun = c.in-Some.begun in
     let found = if_some_at _ c.in_ok-begun.field-0 c.in-Some.begun c.in-Some.is c.in_ok-begun.ensures.found in
-    let wal = c.in_ok-wal.wal in
-    let filled = subst (λ (l : List ℕ). FillsAll (IsTrue g.D.Disk.tells) begun.series.keys begun.named.floor l wal c.fill_all.new.filling (g.D.Disk.files c.fill_all.new.disk) (g.D.Disk.crashes c.begin.new.disk) (g.D.Disk.crashes c.fill_all.new.disk)) c.as_slice-segments.ensures c.in_ok-wal.ensures.filled in
     λ told state sound.
-    read_opens g.D.Disk c.args.disk.now c.begin.new.disk begun found c.args.alloc c.fill_all.new.disk wal c.fill_all.new.filling c.begin.ensures.files c.fill_all.ensures.files c.begin.ensures.crash c.fill_all.ensures.crash filled
+    read_opens g.D.Disk c.args.disk.now c.begin.new.disk begun found c.args.alloc c.fill_all.new.disk c.in_ok-wal.wal c.fill_all.new.filling c.begin.ensures.files c.fill_all.ensures.files c.begin.ensures.crash c.fill_all.ensures.crash c.as_slice-segments.result.now c.as_slice-segments.ensures c.in_ok-wal.ensures.filled
     (laws.keeps_adopted c.args.disk.now told) (c.fill_all.ensures.handed_out ∙ c.begin.ensures.handed_out) told state sound
 
 pub returns-clause-stood : goal.returns-clause-stood
 returns-clause-stood g c =
     let begun = c.in-Some.begun in
     let found = if_some_at _ c.in_ok-begun.field-0 c.in-Some.begun c.in-Some.is c.in_ok-begun.ensures.found in
-    let wal = c.in_ok-wal.wal in
-    let filled = subst (λ (l : List ℕ). FillsAll (IsTrue g.D.Disk.tells) begun.series.keys begun.named.floor l wal c.fill_all.new.filling (g.D.Disk.files c.fill_all.new.disk) (g.D.Disk.crashes c.begin.new.disk) (g.D.Disk.crashes c.fill_all.new.disk)) c.as_slice-segments.ensures c.in_ok-wal.ensures.filled in
-    read_stands g.D.Disk c.args.disk.now c.begin.new.disk begun found c.args.alloc c.fill_all.new.disk wal c.fill_all.new.filling c.begin.ensures.files c.fill_all.ensures.files c.begin.ensures.crash c.fill_all.ensures.crash filled
+    read_stands g.D.Disk c.args.disk.now c.begin.new.disk begun found c.args.alloc c.fill_all.new.disk c.in_ok-wal.wal c.fill_all.new.filling c.begin.ensures.files c.fill_all.ensures.files c.begin.ensures.crash c.fill_all.ensures.crash c.as_slice-segments.result.now c.as_slice-segments.ensures c.in_ok-wal.ensures.filled
     c.in_ok-all_taken.ensures.ok
 
 pub returns-clause-manifest : goal.returns-clause-manifest
@@ -69,9 +62,7 @@ pub returns-clause-ready : goal.returns-clause-ready
 returns-clause-ready g c =
     let begun = c.in-Some.begun in
     let found = if_some_at _ c.in_ok-begun.field-0 c.in-Some.begun c.in-Some.is c.in_ok-begun.ensures.found in
-    let wal = c.in_ok-wal.wal in
-    let filled = subst (λ (l : List ℕ). FillsAll (IsTrue g.D.Disk.tells) begun.series.keys begun.named.floor l wal c.fill_all.new.filling (g.D.Disk.files c.fill_all.new.disk) (g.D.Disk.crashes c.begin.new.disk) (g.D.Disk.crashes c.fill_all.new.disk)) c.as_slice-segments.ensures c.in_ok-wal.ensures.filled in
-    read_ready g.D.Disk c.args.disk.now c.begin.new.disk begun found c.args.alloc c.fill_all.new.disk wal c.fill_all.new.filling c.begin.ensures.files c.fill_all.ensures.files c.begin.ensures.crash c.fill_all.ensures.crash filled
+    read_ready g.D.Disk c.args.disk.now c.begin.new.disk begun found c.args.alloc c.fill_all.new.disk c.in_ok-wal.wal c.fill_all.new.filling c.begin.ensures.files c.fill_all.ensures.files c.begin.ensures.crash c.fill_all.ensures.crash c.as_slice-segments.result.now c.as_slice-segments.ensures c.in_ok-wal.ensures.filled
 
 pub returns-clause-crash : goal.returns-clause-crash
 returns-clause-crash g c = same_then _ (g.D.Disk.crashes c.begin.new.disk) _ c.begin.ensures.crash c.fill_all.ensures.crash

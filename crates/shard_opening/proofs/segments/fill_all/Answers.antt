@@ -1,5 +1,5 @@
 -- One segment more is read to its end.
-use Rattle.std.proofs.Common.{◌≡◌, ◌∷◌, ◌∙◌, ℕ, suc, List, get_or, take, drop, Err, IsTrue, refl, sym, ap, subst}
+use Rattle.std.proofs.Common.{◌≡◌, ◌∷◌, ◌∙◌, ℕ, suc, List, get_or, take, drop, Err, IsTrue, sym, ap, subst}
 use Rattle.std.proofs.lemmas.Result.{err_from_is_err_and}
 use Rattle.std.proofs.lemmas.List.{take_all}
 use Rattle.std.specs.FinMap.{keys}
@@ -96,9 +96,9 @@ loop-file-preserved g c =
     record {
       all = subst (λ (s : List ℕ). AreFilled (IsTrue g.D.Disk.tells) c.args.series.now.keys c.args.floor s c.fill-in-loop-file.new.replay c.fill-in-loop-file.new.filling (g.D.Disk.files c.open_next.new.disk) (g.D.Disk.crashes c.args.disk.now) (g.D.Disk.crashes c.open_next.new.disk))
           (more_behind c.cut_first-first.result.0 others k 0 c.loop-file-test.true)
-          (more_filled (IsTrue g.D.Disk.tells) c.args.series.now.keys c.args.floor (get_or others k 0) (c.cut_first-first.result.0 ∷ take k others) c.loop-file.replay c.open_next.new.replay c.fill-in-loop-file.new.replay c.loop-file.filling c.loop-file.filling c.fill-in-loop-file.new.filling
+          (more_filled (IsTrue g.D.Disk.tells) c.args.series.now.keys c.args.floor (get_or others k 0) (c.cut_first-first.result.0 ∷ take k others) c.loop-file.replay c.open_next.new.replay c.fill-in-loop-file.new.replay c.loop-file.filling c.fill-in-loop-file.new.filling
           (g.D.Disk.files c.loop-file.disk) (g.D.Disk.files c.open_next.new.disk) (g.D.Disk.crashes c.args.disk.now) (g.D.Disk.crashes c.loop-file.disk) (g.D.Disk.crashes c.open_next.new.disk)
-          c.open_next.ensures.files c.loop-file.invariant.crash c.open_next.ensures.crash refl opened.0 opened.1 filled.0 filled.1 c.loop-file.invariant.all);
+          c.open_next.ensures.files c.loop-file.invariant.crash c.open_next.ensures.crash opened.0 opened.1 filled.0 filled.1 c.loop-file.invariant.all);
       files = c.open_next.ensures.files ∙ c.loop-file.invariant.files;
       crash = same_then _ _ _ c.loop-file.invariant.crash c.open_next.ensures.crash;
       handed_out = c.open_next.ensures.handed_out ∙ c.loop-file.invariant.handed_out;

@@ -37,10 +37,19 @@ returns-then-not-is_there-clause-damaged g c = λ damage is told.
     let manifest = found_manifest (IsTrue g.D.Disk.tells) told c.in-Some.manifest c.in-Some.named (g.D.Disk.files c.args.disk.now) (g.D.Disk.crashes c.args.disk.now) (g.D.Disk.crashes c.read.new.disk) found in
     let form = c.in_ok-file.ensures.is in
     let numbers = c.deref.ensures.value ∙ c.in_ok-numbers.ensures.ok told ∙ ap keys c.read.ensures.files in
-    inr (c.in-Some.named, manifest, inr (c.in_ok-file.file, form.0, form.1, inl (record {
-      gone = c.is_there.ensures.missing (λ yes. false≢true (sym c.if-not-is_there.true ∙ yes)) (g.D.Disk.files c.args.disk.now) numbers;
-      told = same;
-    })))
+    inr (
+      c.in-Some.named,
+      manifest,
+      inr (
+        c.in_ok-file.file,
+        form.0,
+        form.1,
+        inl (record {
+          gone = c.is_there.ensures.missing (λ yes. false≢true (sym c.if-not-is_there.true ∙ yes)) (g.D.Disk.files c.args.disk.now) numbers;
+          told = same;
+        }),
+      ),
+    )
 
 pub returns-then-not-is_there-clause-crash : goal.returns-then-not-is_there-clause-crash
 returns-then-not-is_there-clause-crash g c = same_then _ (g.D.Disk.crashes c.read.new.disk) _ c.read.ensures.crash c.list.ensures.crash
