@@ -1,3 +1,4 @@
+ghost use Rattle.std.specs.Prelude.{IfSome};
 ghost use Rattle.manifest_log.specs.Calls.{HasNoReader};
 
 use crate::engines::{SCRIPT, Seen, after, run};
@@ -10,7 +11,9 @@ use std::test::Fail;
 
 // A disk with the three entries of the script, as it is opened again: file 1 has two records of a series each, the second at 18, and
 // file 2 the three entries, the second at 55.
-fn written(rt: &HostRuntime) -> Option<MemDisk> {
+fn written(rt: &HostRuntime) -> Option<MemDisk>
+    ensures { IfSome result (λ disk. HasNoReader (⟦<MemDisk as Disk>⟧.handed_out disk)) }
+{
     let alloc = rt.alloc();
     let (disk, _) = run(
         rt,
