@@ -1,8 +1,9 @@
+ghost use Rattle.std.specs.Prelude.{IfSome};
 ghost use Rattle.manifest_log.specs.Calls.{HasNoReader};
 
 use crate::engines::{SCRIPT, Seen, after, run};
 use mem_disk::MemDisk;
-use shard_disk::{Damage, Disk, Why};
+use shard_disk::{Damage, Disk, Trouble, Why};
 use shard_opening::OpenFault;
 use shard_recover::is_there;
 use shard_steps::Settings;
@@ -10,7 +11,9 @@ use std::test::Fail;
 
 // A disk with the three entries of the script, as it is opened again: file 1 has two records of a series each, the second at 18, and
 // file 2 the three entries, the second at 55.
-fn written(rt: &HostRuntime) -> Option<MemDisk> {
+fn written(rt: &HostRuntime) -> Option<MemDisk>
+    ensures { IfSome result (λ disk. HasNoReader (⟦<MemDisk as Disk>⟧.handed_out disk)) }
+{
     let alloc = rt.alloc();
     let (disk, _) = run(
         rt,
@@ -21,22 +24,26 @@ fn written(rt: &HostRuntime) -> Option<MemDisk> {
     disk.image(&[]).ok()
 }
 
-// Another byte at a place of a file that is there.
-fn change<D: Disk>(disk: &mut D, no: u32, at: u64, byte: u8) -> Option<()>
+// Another byte at a place of a file, where it is there.
+fn change<D: Disk>(disk: &mut D, no: u32, at: u64, byte: u8) -> Result<bool, Trouble>
     requires { HasNoReader (D.handed_out disk.old) }
     ensures { HasNoReader (D.handed_out disk.new) }
 {
-    let numbers = disk.list().ok()?;
-    if !is_there(&numbers, no) || disk.len(no).ok()? < at {
-        return None;
+    let numbers = disk.list()?;
+    if !is_there(&numbers, no) {
+        return Ok(false);
     }
-    disk.write_at(no, at, &[byte]).ok()
+    if disk.len(no)? < at {
+        return Ok(false);
+    }
+    disk.write_at(no, at, &[byte])?;
+    Ok(true)
 }
 
 // What opening shows where a byte is changed so.
 fn changed(rt: &HostRuntime, no: u32, at: u64, byte: u8) -> Option<Seen> {
     let mut disk = written(rt)?;
-    change(&mut disk, no, at, byte)?;
+    change(&mut disk, no, at, byte).ok()?;
     Some(run(rt, disk, Settings::usual(), &[]).1)
 }
 
