@@ -1,5 +1,7 @@
-ghost use Rattle.std.specs.Prelude.{MatchOption, IsTrue, ◌↔◌};
-ghost use Rattle.tsm_server.specs.Words.{AsksMem, AsksShell, IsMem, IsPlain, IsShell};
+ghost use Rattle.std.specs.Prelude.{◌≡◌, ◌∷◌, ◌<◌, ◌↔◌, [], All, IsTrue, MatchOption, length, map};
+ghost use Rattle.std.specs.String.{string_bytes};
+ghost use Rattle.session_io.specs.declared.client.Word.{Word};
+ghost use Rattle.tsm_server.specs.Words.{AsksMem, AsksRun, AsksShell, IsMem, IsPlain, IsRun, IsShell, names_in};
 
 use session_io::Word;
 
@@ -31,6 +33,46 @@ pub fn shell_path(words: &[Word]) -> Option<&str>
         }
         _ => None,
     }
+}
+
+/// The path, and the words of the clients' names, where the words are `run DIR IN OUT [IN OUT ..]` with one client to eight.
+pub fn run_names(words: &[Word]) -> Option<(&str, &[Word])>
+    ensures { MatchOption result (¬ (IsRun words.now)) (λ run. AsksRun words.now run.0.now (names_in run.1.now)) }
+{
+    match words {
+        [name, path, names @ ..] if name.text.as_str() == "run" => {
+            if is_count(names.len()) && are_plain(words) {
+                Some((path.text.as_str(), names))
+            } else {
+                None
+            }
+        }
+        _ => None,
+    }
+}
+
+/// The names of the first client, and the words behind them.
+pub(crate) fn first_names(words: &[Word]) -> Option<(&str, &str, &[Word])>
+    ensures { MatchOption result (names_in words.now ≡ []) (λ first. (names_in words.now
+        ≡ record { input = first.0.now; output = first.1.now } ∷ names_in first.2.now) × (length first.2.now < length words.now)) }
+{
+    match words {
+        [input, output, behind @ ..] => {
+            Some((input.text.as_str(), output.text.as_str(), behind))
+        }
+        _ => None,
+    }
+}
+
+// So many words name one client to eight.
+fn is_count(words: usize) -> bool {
+    words.is_multiple_of(2) && (2..=16).contains(&words)
+}
+
+fn are_plain(words: &[Word]) -> bool
+    ensures { IsTrue result ↔ All IsPlain (map (λ (word : Word). string_bytes word.text) words.now) }
+{
+    words.iter().all(|word| is_plain(word.text.as_str()))
 }
 
 fn is_plain(word: &str) -> bool

@@ -179,7 +179,7 @@ fn other_words_are_no_command(rt: HostRuntime) -> Result<(), Fail> {
         assert_eq!(rt; outcome.status, 1);
         assert_eq!(rt;
             outcome.printed.as_str(),
-            "usage: tsmd mem IN OUT | shell DIR\n"
+            "usage: tsmd mem IN OUT | shell DIR | run DIR IN OUT [IN OUT ..]\n"
         );
         assert_eq!(rt; outcome.replies.as_str(), "");
     }

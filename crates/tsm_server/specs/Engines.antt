@@ -1,0 +1,13 @@
+-- What is an engine of the program that was opened on a disk?
+use Rattle.std.specs.Prelude.{◌≡◌}
+use Rattle.shard_disk.specs.declared.disk.Disk.{Ghosts}
+use Rattle.shard_opening.specs.Opening.{Begins, Opens}
+use Rattle.shard_steps.specs.declared.shard.Shard.{Shard}
+use Rattle.tsm_server.specs.Directories.{IsUsual}
+
+-- It has the program's settings, and began with what its disk stood for, of which nothing has failed since.
+pub record IsOpened {D R W : Type 0} (g : Ghosts D R W) (disk : D) (engine : Shard D) : Type 0 where
+  pub usual : IsUsual engine.settings
+  pub opens : Opens g disk engine
+  pub begins : Begins g disk engine
+  pub health : g.health engine.logs.disk ≡ g.health disk
