@@ -6,7 +6,7 @@ ghost use Rattle.engine_session.specs.Devices.{devices};
 ghost use Rattle.engine_clients.specs.Served.{client_of};
 ghost use Rattle.tsm_server.specs.Directories.{ClientsCause, Closes, OpensClients, OpensSome, PathCause, ServesOrLeaves, graver, gravest, seen, status_by_closing};
 ghost use Rattle.tsm_server.specs.Engines.{IsOpened};
-ghost use Rattle.tsm_server.specs.Seats.{IsNew, ends_of, left_by};
+ghost use Rattle.tsm_server.specs.Seats.{IsNew, end_in, ends_of, left_by};
 ghost use Rattle.tsm_server.specs.Words.{names_in};
 ghost use Rattle.tsm_server.specs.declared.status.Status.TheVariants as status;
 
@@ -14,7 +14,7 @@ use crate::directory::{open_engine, serve_nobody, status_of_closing};
 use crate::status::{Status, status_of};
 use crate::words::first_names;
 use engine_clients::{EngineClient, Ended, serve};
-use session_io::{Client, Desk, Gate, Word};
+use session_io::{Client, Desk, Gate, Report, Word};
 use shard_calls::EngineDisk;
 use shard_disk::Trouble;
 use shard_steps::Shard;
@@ -42,7 +42,7 @@ pub(crate) fn serve_run<R: RandomSource + Threads + Wait + Sync, K: Desk, G: Gat
 ) -> Status
 where
     K::Disk: EngineDisk,
-    requires few { length names.now < 4294967296 }
+    requires few { length (names_in names.now) ≤ 8 }
     ensures cause { PathCause K.Disk.Disk (devices K.Source.given K.Source.left K.Source.ended K.Source.health
         K.Sink.written K.Sink.health K.Clock.moments) path.now (names_in names.now)
         (seen K.health K.dirs K.held K.closed desk.old) (seen K.health K.dirs K.held K.closed desk.new) result }
@@ -65,7 +65,7 @@ fn serve_names<R: Threads + Wait + Sync, K: Desk, G: Gate>(
 ) -> Status
 where
     K::Disk: EngineDisk,
-    requires few { length names.now < 4294967296 }
+    requires few { length (names_in names.now) ≤ 8 }
     requires dir_out { 0 < K.dirs_out desk.old }
     requires ready { IsReady K.Disk.Disk shard }
     requires unlent { shard.views ≡ 0 }
@@ -101,7 +101,6 @@ where
         K.Sink.written K.Sink.health K.Clock.moments) (names_in names.now) (map client_of clients.new.items) why
         (seen K.health K.dirs K.held K.closed desk.old) (seen K.health K.dirs K.held K.closed desk.new)) }
     ensures new { All IsNew clients.new.items }
-    ensures few { length clients.new.items ≤ length names.now }
     ensures out { K.out desk.new ≡ K.out desk.old + length clients.new.items }
     ensures dirs_out { K.dirs_out desk.new ≡ K.dirs_out desk.old }
 {
@@ -144,7 +143,7 @@ where
     requires are_out { length clients.items ≤ K.out desk.old }
     requires ready { IsReady K.Disk.Disk shard }
     requires unlent { shard.views ≡ 0 }
-    requires few { length clients.items < 4294967296 }
+    requires few { length clients.items ≤ 8 }
     requires new { All IsNew clients.items }
     ensures serves { (disk : _) → IsOpened K.Disk.Disk disk shard → ServesOrLeaves K.Disk.Disk (devices K.Source.given K.Source.left K.Source.ended K.Source.health
         K.Sink.written K.Sink.health K.Clock.moments) disk (map client_of clients.items)
@@ -188,11 +187,18 @@ fn gravest_of<S, K, C, D: EngineDisk>(
 {
     let mut status = closing;
     for client in clients {
-        if let Some(report) = &client.report {
-            status = status.graver(status_of(report.end));
-        }
+        status = graver_by(status, &client.report);
     }
     status
+}
+
+fn graver_by(status: Status, report: &Option<Report>) -> Status
+    ensures { result ≡ gravest status (end_in report.now) }
+{
+    match report {
+        Some(report) => status.graver(status_of(report.end)),
+        None => status,
+    }
 }
 
 /// Closes the clients, in their order.

@@ -29,8 +29,8 @@ use std::thread::Threads;
 /// serves one client to eight over DIR, each on a thread of its own, from its input IN to its output OUT: no client is opened before
 /// the directory, none is served before all are open, and the directory is closed behind the last one. Prints the line of the status
 /// that it answers, whole unless `out` refuses it; a refusal of `out` changes no status. `rt` makes threads, and gives what clients
-/// can't know, from which hashes begin; where it gives none the program ends as for want of memory. `gate` stands for places where tests
-/// may hold a session. Of the commands only `run` waits for other threads.
+/// can't know, from which hashes begin (no clause asks for it); where it gives none the program ends as for want of memory. `gate`
+/// stands for places where tests may hold a session. Of the commands only `run` waits for other threads.
 pub fn tsmd<R: RandomSource + Threads + Wait + Sync, K: Desk, G: Gate>(
     rt: &R,
     alloc: Global,

@@ -162,7 +162,7 @@ fn limits_are_exact(rt: HostRuntime) -> Result<(), Fail> {
 
 #[test]
 fn other_words_are_no_command(rt: HostRuntime) -> Result<(), Fail> {
-    let rows: [&[&str]; 9] = [
+    let rows: [&[&str]; 12] = [
         &[],
         &["shell"],
         &["shell", "-"],
@@ -172,6 +172,12 @@ fn other_words_are_no_command(rt: HostRuntime) -> Result<(), Fail> {
         &["mem", "-", "out"],
         &["mem", "in", ""],
         &["Mem", "in", "out"],
+        &["run", "db"],
+        &["run", "db", "in"],
+        &[
+            "run", "db", "a", "b", "c", "d", "e", "f", "g", "h", "i", "j", "k", "l", "m", "n", "o",
+            "p", "q", "r",
+        ],
     ];
     for words in &rows {
         let desk = desk(rt.alloc(), "SELECT v FROM cpu\n", &[], &[])?;
