@@ -1,5 +1,5 @@
 -- What was opened and closed, step by step, and what was served from the disk on.
-use Rattle.std.proofs.Common.{◌≡◌, ℕ, suc, List, length, [], ◌∷◌, ◌++◌, refl, sym, ap, ◌∙◌, map, append_assoc, append-nil}
+use Rattle.std.proofs.Common.{◌≡◌, ℕ, suc, List, length, [], ◌∷◌, ◌++◌, refl, sym, ap, ◌∙◌, subst, append_assoc, append-nil}
 use Rattle.std.specs.Prelude.{Err, Result}
 use Rattle.shard_disk.specs.Health.{Health}
 use Rattle.shard_disk.specs.declared.disk.Disk.{Ghosts}
@@ -42,7 +42,7 @@ module _ {D S K C : Type 0} (members : Devices S K C) where
   -- one client more was opened
   pub opens_more : (names : List Names) (clients : List (Client S K C)) (name : Names) (client : Client S K C) (old mid new : Seen D S K C) → OpensClients members names clients old mid
       → OpensClient members name client mid new → OpensClients members (names ++ name ∷ []) (clients ++ client ∷ []) old new
-  opens_more [] [] name client old mid new is more = (new, cc (is, more), refl)
+  opens_more [] [] name client old mid new is more = (new, subst (λ (s : Seen D S K C). OpensClient members name client s new) is more, refl)
   opens_more (first ∷ names) (one ∷ clients) name client old mid new is more = (is.0, is.1, opens_more names clients name client is.0 mid new is.2 more)
   opens_more [] (one ∷ clients) name client old mid new is more = absurd is
   opens_more (first ∷ names) [] name client old mid new is more = absurd is

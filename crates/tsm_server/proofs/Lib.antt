@@ -5,3 +5,4 @@ pub mod Growing
 pub mod SeatsLemmas
 pub mod ServingLemmas
 pub mod Three
+pub mod WordsLemmas

@@ -17,22 +17,24 @@ pub gravest_both : (first : Status) (ends more : List End) → gravest first (en
 gravest_both first [] more = refl
 gravest_both first (end ∷ ends) more = gravest_both _ ends more
 
+-- how each of them ended
+module _ {S K C P : Type 0} where
+  pub ends_served : (seat : Finished S K C → Seated S K C P) → ((f : Finished S K C) → seat f ≡ record { client = f.client; report = Some f.report; pass = None }) → (finished : List (Finished S K C))
+      → ends_of (map seat finished) ≡ map (λ (f : Finished S K C). f.report.end) finished
+  ends_served seat is [] = refl
+  ends_served seat is (one ∷ more) = cc (is one, ends_served seat is more)
+
 module _ {D S K C P : Type 0} (members : Devices S K C) where
   -- none of them was served
-  pub left_unserved : (clients : List (Seated S K C P)) → All IsNew clients → map (left_by {D} members) clients ≡ map (unserved {D} members) (map (λ (c : Seated S K C P). c.client) clients)
+  pub left_unserved : (clients : List (Seated S K C P)) → All IsNew clients → map (left_by {D = D} members) clients ≡ map (unserved {D = D} members) (map (λ (c : Seated S K C P). c.client) clients)
   left_unserved [] new = refl
   left_unserved (client ∷ clients) new = cc ((All-head IsNew client clients new).unserved, left_unserved clients (All-tail IsNew client clients new))
 
   -- each of them was served
   pub left_served : (seat : Finished S K C → Seated S K C P) → ((f : Finished S K C) → seat f ≡ record { client = f.client; report = Some f.report; pass = None }) → (finished : List (Finished S K C))
-      → map (left_by {D} members) (map seat finished) ≡ map (left_of {D} members) finished
+      → map (left_by {D = D} members) (map seat finished) ≡ map (left_of {D = D} members) finished
   left_served seat is [] = refl
   left_served seat is (one ∷ more) = cc (is one, left_served seat is more)
-
-  pub ends_served : (seat : Finished S K C → Seated S K C P) → ((f : Finished S K C) → seat f ≡ record { client = f.client; report = Some f.report; pass = None }) → (finished : List (Finished S K C))
-      → ends_of (map seat finished) ≡ map (λ (f : Finished S K C). f.report.end) finished
-  ends_served seat is [] = refl
-  ends_served seat is (one ∷ more) = cc (is one, ends_served seat is more)
 
   -- one client more was closed
   pub left_more : (done : List (Seated S K C P)) (one : Seated S K C P) (old mid new : Seen D S K C) → Closes (map (left_by members) done) old mid → Closes (left_by members one ∷ []) mid new

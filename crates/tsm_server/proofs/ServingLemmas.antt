@@ -1,5 +1,6 @@
 -- What clients that are served together come to, from the disk on.
-use Rattle.std.proofs.Common.{◌≡◌, ◌+◌, ℕ, Bool, true, false, List, [], ◌∷◌, ◌++◌, length, refl, sym, ap, ◌∙◌, subst, map, All, inl, inr, ◌⊎◌, ⊎_elim, append-nil, length-map}
+use Rattle.std.proofs.Common.{◌≡◌, ℕ, suc, Bool, true, false, List, [], ◌∷◌, ◌++◌, length, refl, sym, ap, ◌∙◌, subst, map, All, inl, inr, ◌⊎◌, ⊎_elim, append-nil}
+use Rattle.std.proofs.lemmas.List.{length-map}
 use Rattle.shard_disk.specs.declared.disk.Disk.{Ghosts}
 use Rattle.shard_disk.specs.declared.trouble.Trouble.TheVariants as trouble
 use Rattle.session_io.specs.declared.client.Client.{Client}
@@ -9,6 +10,7 @@ use Rattle.shard_steps.specs.declared.shard.Shard.{Shard}
 use Rattle.engine_session.specs.Clients.{AreSessions, Finished}
 use Rattle.engine_session.specs.Devices.{Devices}
 use Rattle.engine_session.specs.Serving.{ClientSession}
+use Rattle.engine_clients.specs.Seats.{Served}
 use Rattle.engine_clients.specs.Served.{ServesEngineBy, client_of, left_by as seated_by}
 use Rattle.engine_clients.specs.declared.serving.Ended.{Ended}
 use Rattle.tsm_server.specs.Directories.{ClientsCause, Closes, OpensClients, Seen, ServesAll, ServesNobody, ServesOrLeaves, graver, gravest, status_by_closing, unserved}
@@ -20,18 +22,19 @@ use Rattle.tsm_server.specs.declared.status.Status.TheVariants as status
 use Rattle.tsm_server.proofs.DirectoriesLemmas.{closes_more, serves_clients}
 use Rattle.tsm_server.proofs.SeatsLemmas.{ends_served, left_served, left_unserved}
 
-module _ {D R W S K C : Type 0} (g : Ghosts D R W) (members : Devices S K C) (engine : Shard D) (old new : List _) (ended : Ended D) where
+module _ {S K C : Type 0} (members : Devices S K C) where
   sessions_length : (clients : List (Client S K C)) (finished : List (Finished S K C)) (sessions : List ClientSession) → AreSessions members clients finished sessions → length finished ≡ length clients
   sessions_length [] [] [] are = refl
-  sessions_length (client ∷ clients) (one ∷ finished) (session ∷ sessions) are = ap (λ n. n + 1) (sessions_length clients finished sessions are.1)
+  sessions_length (client ∷ clients) (one ∷ finished) (session ∷ sessions) are = ap suc (sessions_length clients finished sessions are.1)
   sessions_length [] [] (session ∷ sessions) are = absurd are
   sessions_length [] (one ∷ finished) sessions are = absurd are
   sessions_length (client ∷ clients) [] sessions are = absurd are
   sessions_length (client ∷ clients) (one ∷ finished) [] are = absurd are
 
+module _ {D R W S K C : Type 0} (g : Ghosts D R W) (members : Devices S K C) (engine : Shard D) (old new : List (Served D S K C)) (ended : Ended D) where
   -- as many clients come back
   pub same_length : (served : Bool) → ServesEngineBy g members engine old new ended served → length new ≡ length old
-  same_length true serves = ap length serves.1 ∙ length-map _ serves.0 ∙ sessions_length (map client_of old) serves.0 serves.2 serves.3 ∙ length-map _ old
+  same_length true serves = ap length serves.1 ∙ length-map serves.0 _ ∙ sessions_length members (map client_of old) serves.0 serves.2 serves.3 ∙ length-map old _
   same_length false serves = ap length serves.0
 
   module _ (disk : D) (opened : IsOpened g disk engine) (are : All IsNew old) (before later now : Seen D S K C) (s : Status) (clients_closed : Closes (map (left_by members) new) before later)
@@ -48,7 +51,7 @@ module _ {D R W S K C : Type 0} (g : Ghosts D R W) (members : Devices S K C) (en
       serves = serves_clients g members disk engine opened ended.disk ended.number ended.closed (map client_of old) serves.0 serves.2 serves.3 serves.4;
       closes = closes_more _ _ before later now
           (subst (λ (l : List (Left D)). Closes l before later) (ap (map (left_by members)) serves.1 ∙ left_served members seated_by (λ f. refl) serves.0) clients_closed) disk_closed;
-      status = by_all refl ∙ ap (gravest (status_by_closing ended.closed)) (ap ends_of serves.1 ∙ ends_served members seated_by (λ f. refl) serves.0);
+      status = by_all refl ∙ ap (gravest (status_by_closing ended.closed)) (ap ends_of serves.1 ∙ ends_served seated_by (λ f. refl) serves.0);
     })
     served_or_left false serves by_all by_none = inr (
       later,

@@ -1,5 +1,6 @@
 -- Which words are a command?
-use Rattle.std.specs.Prelude.{◌≡◌, ◌≢◌, ◌⊎◌, ◌<◌, ◌≤◌, ℕ, List, [], ◌∷◌, map, length, slice_index, codes, All}
+use Rattle.std.specs.Prelude.{◌≡◌, ◌≢◌, ◌⊎◌, ◌<◌, ◌≤◌, ℕ, List, [], ◌∷◌, map, length, slice_index, codes}
+use Rattle.std.specs.List.{AllByRecursion}
 use Rattle.std.specs.String.{string_bytes}
 use Rattle.session_io.specs.declared.client.Word.{Word}
 
@@ -40,7 +41,7 @@ pub record AsksRun (words : List Word) (path : List ℕ) (clients : List Names) 
   pub spelled : map (λ (word : Word). string_bytes word.text) words ≡ codes "run" ∷ path ∷ texts_of clients
   pub some : 1 ≤ length clients
   pub few : length clients ≤ 8
-  pub plain : All IsPlain (path ∷ texts_of clients)
+  pub plain : AllByRecursion IsPlain (path ∷ texts_of clients)
 
 -- both standard streams
 abbrev pub standard : Names

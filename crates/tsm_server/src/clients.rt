@@ -104,7 +104,9 @@ where
     ensures out { K.out desk.new ≡ K.out desk.old + length clients.new.items }
     ensures dirs_out { K.dirs_out desk.new ≡ K.dirs_out desk.old }
 {
-    clients.reserve(names.len())?;
+    let Ok(()) = clients.reserve(names.len()) else {
+        return Err(Trouble::Memory);
+    };
     let mut rest = names;
     while let Some((input, output, behind)) = first_names(rest) {
         let client = desk.open_client(input, output)?;
@@ -121,6 +123,7 @@ fn seat<S, K, C, D: EngineDisk>(
 )
     requires room { vec_len clients.old < vec_capacity clients.old }
     ensures items { clients.new.items ≡ clients.old.items ++ record { client = client; report = None; pass = None } ∷ [] }
+    ensures len { vec_len clients.new ≡ vec_len clients.old + 1 }
     ensures room { vec_capacity clients.old ≤ vec_capacity clients.new }
 {
     match clients.push(EngineClient::new(client)) {

@@ -3,6 +3,7 @@ use Rattle.std.proofs.Common.{◌≡◌, ◌++◌, ◌∷◌, [], reverse, refl,
 use Rattle.std.proofs.lemmas.List.{reverse-reverse}
 use Rattle.std.proofs.lemmas.List.Elements.{All-pop}
 use Rattle.std.proofs.lemmas.List.Sorted.{All-permutation}
+use Rattle.engine_session.specs.Devices.{devices}
 use Rattle.tsm_server.proofs.DirectoriesLemmas.{closes_none}
 use Rattle.tsm_server.proofs.SeatsLemmas.{left_more, waits_more}
 use Rattle.tsm_server.proofs.clients.close_clients.Goals as goal
@@ -32,7 +33,7 @@ loop-client-preserved g c =
       done = was.done ++ one ∷ [];
       whole = waits_more c.args.clients.items was.done c.loop-client.clients.items c.pop.new.self.items one was.whole c.in-Some.ensures.items;
       empty = (All-pop (λ s. s.pass ≡ None) c.loop-client.clients.items c.pop.new.self.items (Some one) c.in-Some.ensures.items was.empty).0;
-      closes = left_more _ was.done one _ _ _ was.closes c.close_one.ensures.closes;
+      closes = left_more (devices g.K.Source.Source.given g.K.Source.Source.left g.K.Source.Source.ended g.K.Source.Source.health g.K.Sink.Sink.written g.K.Sink.Sink.health g.K.Clock.Clock.moments) was.done one _ _ _ was.closes c.close_one.ensures.closes;
       out = omega (arith, long, out, less);
       dirs_out = c.close_one.ensures.dirs_out ∙ was.dirs_out;
     }
