@@ -1,0 +1,7 @@
+pub mod BagLemmas
+pub mod ComposeLemmas
+pub mod EachLemmas
+pub mod PassLemmas
+pub mod SeatLemmas
+pub mod ServedLemmas
+pub mod WholeLemmas
