@@ -13,7 +13,7 @@ ghost use Rattle.tsm_server.specs.declared.status.Status.TheVariants as status;
 use crate::directory::{open_engine, serve_nobody, status_of_closing};
 use crate::status::{Status, status_of};
 use crate::words::first_names;
-use engine_clients::{EngineClient, Ended, serve};
+use engine_clients::{Ended, EngineClient, serve};
 use session_io::{Client, Desk, Gate, Report, Word};
 use shard_calls::EngineDisk;
 use shard_disk::Trouble;

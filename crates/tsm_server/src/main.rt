@@ -24,11 +24,11 @@ pub use memory::mem;
 pub use program::tsmd;
 use session_io::{HostSink, Word};
 pub use status::Status;
-pub use streams::{Input, Output};
 use std::alloc::AllocError;
 use std::env;
 use std::io::ErrorKind;
 use std::process::ExitCode;
+pub use streams::{Input, Output};
 
 fn main(rt: HostRuntime) -> ExitCode {
     let alloc = rt.alloc();

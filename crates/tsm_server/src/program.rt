@@ -67,7 +67,10 @@ pub fn end<K: Sink>(out: &mut K, status: Status) -> u8
     match status {
         Status::Damaged(damage) => print(out, damage_line(&damage).as_slice()),
         Status::Served => {}
-        Status::NoCommand => print(out, b"usage: tsmd mem IN OUT | shell DIR | run DIR IN OUT [IN OUT ..]\n"),
+        Status::NoCommand => print(
+            out,
+            b"usage: tsmd mem IN OUT | shell DIR | run DIR IN OUT [IN OUT ..]\n",
+        ),
         Status::Fault => print(out, b"fault\n"),
         Status::NoMemory => print(out, b"memory\n"),
     }
