@@ -1,5 +1,5 @@
 -- Why the program ended so, from how its one session ended.
-use Rattle.std.proofs.Common.{◌≡◌, inl, inr, ℕ, List, Option, refl, arith, sym, ap, ◌∙◌, ◌⊎◌, ⊎_elim, Ok, Err}
+use Rattle.std.proofs.Common.{◌≡◌, inl, inr, ℕ, List, [], ◌∷◌, map, Option, refl, arith, sym, subst, ◌⊎◌, ⊎_elim, Ok, Err}
 use Rattle.std.specs.Prelude.{◌↔◌, Result}
 use Rattle.shard_disk.specs.Health.{Health}
 use Rattle.session_io.specs.declared.client.Word.{Word}
@@ -8,7 +8,7 @@ use Rattle.session_io.specs.declared.report.End.{End}
 use Rattle.session_io.specs.declared.report.End.TheVariants.{Read, SourceFault, SinkFault, Memory}
 use Rattle.session_io.specs.Clients.{Held, HandsOut}
 use Rattle.session_io.specs.Directories.{Left}
-use Rattle.tsm_server.specs.Words.{AsksMem, IsCommand}
+use Rattle.tsm_server.specs.Words.{AsksDirectory, AsksMem, AsksRun, AsksShell, IsCommand, Names, standard}
 use Rattle.tsm_server.specs.Printing.{code_of}
 use Rattle.tsm_server.specs.declared.status.Status.{Status}
 use Rattle.tsm_server.specs.declared.status.Status.TheVariants as status
@@ -16,10 +16,11 @@ use Rattle.shard_disk.specs.declared.disk.Disk.{Ghosts}
 use Rattle.shard_disk.specs.declared.trouble.Trouble.{Trouble}
 use Rattle.shard_disk.specs.declared.trouble.Trouble.TheVariants as trouble
 use Rattle.gate_log.specs.declared.fault.LogFault.TheVariants as fault
-use Rattle.engine_session.specs.declared.directory.ShellEnd.{ShellEnd}
-use Rattle.engine_session.specs.declared.directory.ShellEnd.TheVariants.{Opening, Done}
-use Rattle.tsm_server.specs.Outcomes.{Devices, ClosesOne, HasCause, status_by}
-use Rattle.tsm_server.specs.Directories.{ClosesDisk, DiskCause, OpensClient, OpensDir, OpensNone, Seen, ServesBoth, ShellCause, status_by_done, status_by_shell, status_of}
+use Rattle.gate_log.specs.declared.fault.LogFault.{LogFault}
+use Rattle.engine_session.specs.Clients.{Finished}
+use Rattle.engine_session.specs.Devices.{Devices}
+use Rattle.tsm_server.specs.Outcomes.{ClosesOne, HasCause, status_by}
+use Rattle.tsm_server.specs.Directories.{ClientsCause, ClosesUnserved, DirectoryCause, OpensClients, OpensDir, OpensNone, PathRefused, RefusesDisk, Seen, ServesAll, ServesNobody, graver, gravest, status_by_closing, status_by_opening, status_of}
 
 module _ {D S K C : Type 0} (members : Devices S K C) (words : List Word) (old new : Health) (held_before held_now : Option (List (Held S K C))) (before now : List (Left D)) where
   -- one client was handed out, served and closed
@@ -29,41 +30,89 @@ module _ {D S K C : Type 0} (members : Devices S K C) (words : List Word) (old n
   caused input output asked client handed quiet SinkFault closes = ((input, output, asked), inr (inr (record { input = input; output = output; asked = asked; client = client; handed = handed; quiet = quiet; closes = closes })))
   caused input output asked client handed quiet Memory closes = ((input, output, asked), inr (record { input = input; output = output; asked = asked; client = client; handed = handed; quiet = quiet; closes = closes }))
 
--- what opening told ends with no status of words
-trouble_is_no_word : (why : Trouble) → code_of (status_of why) ≡ 1 → ⊥
-trouble_is_no_word trouble.Fault is = absurd (omega (arith, is))
-trouble_is_no_word trouble.Memory is = absurd (omega (arith, is))
+-- a status that isn't that of words
+abbrev IsPlainEnd : Status → Type 0
+IsPlainEnd status.NoCommand = ⊥
+IsPlainEnd _ = Unit {0}
 
-done_is_no_word : (end : End) (closed : Result (Unit {0}) Trouble) → code_of (status_by_done end closed) ≡ 1 → ⊥
-done_is_no_word SourceFault closed is = absurd (omega (arith, is))
-done_is_no_word SinkFault closed is = absurd (omega (arith, is))
-done_is_no_word Read (Ok done) is = absurd (omega (arith, is))
-done_is_no_word Read (Err trouble.Fault) is = absurd (omega (arith, is))
-done_is_no_word Read (Err trouble.Memory) is = absurd (omega (arith, is))
-done_is_no_word Memory (Ok done) is = absurd (omega (arith, is))
-done_is_no_word Memory (Err trouble.Fault) is = absurd (omega (arith, is))
-done_is_no_word Memory (Err trouble.Memory) is = absurd (omega (arith, is))
+closing_is_plain : (closed : Result (Unit {0}) Trouble) → IsPlainEnd (status_by_closing closed)
+closing_is_plain (Ok done) = tt
+closing_is_plain (Err trouble.Fault) = tt
+closing_is_plain (Err trouble.Memory) = tt
 
-shell_is_no_word : (end : ShellEnd) → code_of (status_by_shell end) ≡ 1 → ⊥
-shell_is_no_word (Opening (fault.Damaged damage)) is = absurd (omega (arith, is))
-shell_is_no_word (Opening fault.Fault) is = absurd (omega (arith, is))
-shell_is_no_word (Opening fault.Memory) is = absurd (omega (arith, is))
-shell_is_no_word (Done report number closed) is = done_is_no_word report.end closed is
+trouble_is_plain : (why : Trouble) → IsPlainEnd (status_of why)
+trouble_is_plain trouble.Fault = tt
+trouble_is_plain trouble.Memory = tt
+
+end_is_plain : (end : End) → IsPlainEnd (status_by end)
+end_is_plain Read = tt
+end_is_plain SourceFault = tt
+end_is_plain SinkFault = tt
+end_is_plain Memory = tt
+
+graver_is_plain : (first next : Status) → IsPlainEnd first → IsPlainEnd next → IsPlainEnd (graver first next)
+graver_is_plain status.Served next a b = b
+graver_is_plain status.NoCommand next a b = a
+graver_is_plain (status.Damaged damage) next a b = a
+graver_is_plain status.Fault next a b = a
+graver_is_plain status.NoMemory status.Served a b = tt
+graver_is_plain status.NoMemory status.NoCommand a b = tt
+graver_is_plain status.NoMemory (status.Damaged damage) a b = tt
+graver_is_plain status.NoMemory status.Fault a b = tt
+graver_is_plain status.NoMemory status.NoMemory a b = tt
+
+gravest_is_plain : (first : Status) (ends : List End) → IsPlainEnd first → IsPlainEnd (gravest first ends)
+gravest_is_plain first [] plain = plain
+gravest_is_plain first (end ∷ ends) plain = gravest_is_plain (graver first (status_by end)) ends (graver_is_plain first (status_by end) plain (end_is_plain end))
+
+opening_is_plain : (why : LogFault) → IsPlainEnd (status_by_opening why)
+opening_is_plain (fault.Damaged damage) = tt
+opening_is_plain fault.Fault = tt
+opening_is_plain fault.Memory = tt
+
+plain_is_no_word : (s : Status) → IsPlainEnd s → code_of s ≡ 1 → ⊥
+plain_is_no_word status.Served plain is = absurd (omega (arith, is))
+plain_is_no_word status.NoCommand plain is = absurd plain
+plain_is_no_word (status.Damaged damage) plain is = absurd (omega (arith, is))
+plain_is_no_word status.Fault plain is = absurd (omega (arith, is))
+plain_is_no_word status.NoMemory plain is = absurd (omega (arith, is))
 
 module _ {D R W S K C : Type 0} (g : Ghosts D R W) (members : Devices S K C) (words : List Word) (before now : Seen D S K C) where
+  nobody_is_plain : (disk : D) (why : Trouble) (old new : Seen D S K C) (s : Status) → ServesNobody g members disk why old new s → IsPlainEnd s
+  nobody_is_plain disk why old new s served = subst IsPlainEnd (sym served.status)
+      (graver_is_plain (status_of why) (status_by_closing served.closing) (trouble_is_plain why) (closing_is_plain served.closing))
+
+  clients_are_plain : (disk : D) (names : List Names) (old new : Seen D S K C) (s : Status) → ClientsCause g members disk names old new s → IsPlainEnd s
+  clients_are_plain disk names old new s cause = ⊎_elim
+      (λ (all : (clients : List (Client S K C)) × (between : Seen D S K C) × OpensClients members names clients old between × ServesAll g members disk clients between new s).
+      subst IsPlainEnd (sym all.3.status) (gravest_is_plain (status_by_closing all.3.closing) (map (λ (f : Finished S K C). f.report.end) all.3.finished) (closing_is_plain all.3.closing)))
+      (λ (none : ClosesUnserved g members disk names old new s). nobody_is_plain disk none.why none.later new s none.nobody)
+      cause
+
+  refused_is_plain : (path : List ℕ) (s : Status) → PathRefused g path before now s → IsPlainEnd s
+  refused_is_plain path s refused = ⊎_elim
+      (λ (none : (why : Trouble) × OpensNone why before now × (s ≡ status_of why)). subst IsPlainEnd (sym none.2) (trouble_is_plain none.0))
+      (λ (some : (disk : D) × (between : Seen D S K C) × OpensDir path disk before between × RefusesDisk g disk between now s).
+      subst IsPlainEnd (sym some.3.status) (opening_is_plain some.3.why))
+      refused
+
   -- the words that ask for a directory never end as none
-  not_by_shell : (s : Status) → ShellCause g members words before now s → code_of s ≡ 1 → ⊥
-  not_by_shell s cause is = ⊎_elim
-      (λ (opened : (disk : D) × (between : Seen D S K C) × OpensDir cause.0 disk before between × DiskCause g members disk between now s). ⊎_elim
-      (λ (served : (client : Client S K C) × (middle : Seen D S K C) × OpensClient g members client opened.1 middle × (end : ShellEnd) × ServesBoth g members opened.0 client end middle now × (s ≡ status_by_shell end)).
-      shell_is_no_word served.3 (sym (ap code_of served.5) ∙ is))
-      (λ (none : (why : Trouble) × ClosesDisk g members opened.0 why opened.1 now × (s ≡ status_of why)). trouble_is_no_word none.0 (sym (ap code_of none.2) ∙ is))
-      opened.3)
-      (λ (none : (why : Trouble) × OpensNone why before now × (s ≡ status_of why)). trouble_is_no_word none.0 (sym (ap code_of none.2) ∙ is))
-      cause.2
+  not_by_directory : (s : Status) → DirectoryCause g members words before now s → code_of s ≡ 1 → ⊥
+  not_by_directory s cause is = plain_is_no_word s (⊎_elim
+      (λ (refused : PathRefused g cause.path before now s). refused_is_plain cause.path s refused)
+      (λ (opened : (disk : D) × (between : Seen D S K C) × OpensDir cause.path disk before between × ClientsCause g members disk cause.names between now s).
+      clients_are_plain opened.0 cause.names opened.1 now s opened.3)
+      cause.cause) is
+
+  -- and they are a command
+  is_command : (path : List ℕ) (names : List Names) → AsksDirectory words path names → IsCommand words
+  is_command path names asked = ⊎_elim
+      (λ (shell : AsksShell words path × (names ≡ standard ∷ [])). inr (inl (path, shell.0)))
+      (λ (run : AsksRun words path names). inr (inr (path, names, run)))
+      asked
 
   abbrev pub Whole : Status → Type 0
-  Whole s = HasCause members words before.health now.health before.held now.held before.closed now.closed s ⊎ ShellCause g members words before now s
+  Whole s = HasCause members words before.health now.health before.held now.held before.closed now.closed s ⊎ DirectoryCause g members words before now s
 
   by_mem : (s : Status) → HasCause members words before.health now.health before.held now.held before.closed now.closed s → (code_of s ≡ 1) ↔ (¬ (IsCommand words))
   by_mem status.Served served = (λ is. absurd (omega (arith, is)), λ no. absurd (no (inl (served.input, served.output, served.asked))))
@@ -75,7 +124,7 @@ module _ {D R W S K C : Type 0} (g : Ghosts D R W) (members : Devices S K C) (wo
   -- the status is 1 exactly where the words are no command
   pub no_command : (s : Status) → Whole s → (code_of s ≡ 1) ↔ (¬ (IsCommand words))
   no_command s cause = ⊎_elim (by_mem s)
-      (λ (shell : ShellCause g members words before now s). (λ is. absurd (not_by_shell s shell is), λ no. absurd (no (inr (shell.0, shell.1)))))
+      (λ (over : DirectoryCause g members words before now s). (λ is. absurd (not_by_directory s over is), λ no. absurd (no (is_command over.path over.names over.asked))))
       cause
 
   left_by_mem : (s : Status) → HasCause members words before.health now.health before.held now.held before.closed now.closed s → code_of s ≡ 1 → now.closed ≡ before.closed
@@ -87,4 +136,4 @@ module _ {D R W S K C : Type 0} (g : Ghosts D R W) (members : Devices S K C) (wo
 
   -- and then nothing was closed
   pub nothing_closed : (s : Status) → Whole s → code_of s ≡ 1 → now.closed ≡ before.closed
-  nothing_closed s cause is = ⊎_elim (λ mem. left_by_mem s mem is) (λ (shell : ShellCause g members words before now s). absurd (not_by_shell s shell is)) cause
+  nothing_closed s cause is = ⊎_elim (λ mem. left_by_mem s mem is) (λ (over : DirectoryCause g members words before now s). absurd (not_by_directory s over is)) cause

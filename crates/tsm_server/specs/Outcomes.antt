@@ -1,5 +1,5 @@
 -- What did one run of the program do, and why did it end so?
-use Rattle.std.specs.Prelude.{◌≡◌, ◌⊎◌, ℕ, ℤ, Bool, List, [], ◌∷◌, ◌++◌, Option, Some, IsTrue}
+use Rattle.std.specs.Prelude.{◌≡◌, ◌⊎◌, ℕ, List, [], ◌∷◌, ◌++◌, Option, Some, IsTrue}
 use Rattle.shard_disk.specs.Health.{Health, Rose}
 use Rattle.session_io.specs.declared.client.Word.{Word}
 use Rattle.session_io.specs.declared.client.Client.{Client}
@@ -10,35 +10,11 @@ use Rattle.session_io.specs.Streams.{IsTold}
 use Rattle.session_io.specs.Clients.{Closed, Held, HandsOut, IsHeld, closed_client}
 use Rattle.session_io.specs.Directories.{Left, OfClient}
 use Rattle.session_model.specs.Explained.{Transcript}
-use Rattle.session_loop.specs.Sessions.{Told, IsServed, told}
+use Rattle.session_loop.specs.Sessions.{IsServed}
+use Rattle.engine_session.specs.Devices.{Devices, told_by}
 use Rattle.tsm_server.specs.Words.{AsksMem, IsCommand, IsMem}
 use Rattle.tsm_server.specs.declared.status.Status.{Status}
 use Rattle.tsm_server.specs.declared.status.Status.TheVariants as status
-
--- what the sources, sinks and clocks of a desk tell of themselves
-pub record Devices (S K C : Type 0) : Type 0 where
-  pub given : S → Option (List ℕ)
-  pub left : S → Option (List ℕ)
-  pub ended : S → Bool
-  pub source_health : S → Health
-  pub written : K → Option (List ℕ)
-  pub sink_health : K → Health
-  pub moments : C → Option (List ℤ)
-
-abbrev pub devices : {S K C : Type 0} → (S → Option (List ℕ)) → (S → Option (List ℕ)) → (S → Bool) → (S → Health) → (K → Option (List ℕ)) → (K → Health) → (C → Option (List ℤ)) → Devices S K C
-devices given left ended source_health written sink_health moments = record {
-  given = given;
-  left = left;
-  ended = ended;
-  source_health = source_health;
-  written = written;
-  sink_health = sink_health;
-  moments = moments;
-}
-
--- what a client's devices tell at a moment
-abbrev pub told_by : {S K C : Type 0} → Devices S K C → Client S K C → Told
-told_by members client = told members.given members.left members.ended members.written members.moments client.source client.sink client.clock
 
 -- what is left of a client that was served
 abbrev pub closed_by : {S K C : Type 0} → Devices S K C → Client S K C → Report → Closed

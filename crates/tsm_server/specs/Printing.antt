@@ -23,7 +23,7 @@ damage_text damage = codes "damaged " ++ decimal damage.file ++ codes " " ++ dec
 -- the line that is printed, with its newline; none where all went well
 abbrev pub line_of : Status → List ℕ
 line_of Served = []
-line_of NoCommand = codes "usage: tsmd mem IN OUT | shell DIR" ++ 10 ∷ []
+line_of NoCommand = codes "usage: tsmd mem IN OUT | shell DIR | run DIR IN OUT [IN OUT ..]" ++ 10 ∷ []
 line_of (Damaged damage) = damage_text damage
 line_of Fault = codes "fault" ++ 10 ∷ []
 line_of NoMemory = codes "memory" ++ 10 ∷ []

@@ -1,17 +1,20 @@
-//! One client on the standard streams over a directory.
-ghost use Rattle.std.specs.Prelude.{◌≡◌, ◌+◌, ◌<◌, option_copied};
+//! The engine of a directory, and one client over it on the standard streams.
+ghost use Rattle.std.specs.Prelude.{◌≡◌, ◌+◌, ◌<◌, ◌∷◌, [], IfErr, IfOk, if◌then◌else◌, is_ok};
 ghost use Rattle.manifest_log.specs.Calls.{HasNoReader};
-ghost use Rattle.tsm_server.specs.Directories.{DiskCause, PathCause, ServesBoth, report_of, seen, status_by_done, status_by_shell, status_of};
-ghost use Rattle.tsm_server.specs.Outcomes.{devices};
-ghost use Rattle.engine_session.specs.declared.directory.ShellEnd.{ShellEnd as Ended};
+ghost use Rattle.shard_steps.specs.Shards.{IsReady};
+ghost use Rattle.engine_session.specs.Devices.{devices};
+ghost use Rattle.tsm_server.specs.Directories.{ClientsCause, OpensDir, PathCause, PathRefused, RefusesDisk, ServesAll, ServesNobody, seen, status_by_closing, status_by_opening, status_of};
+ghost use Rattle.tsm_server.specs.Engines.{IsOpened};
+ghost use Rattle.tsm_server.specs.Words.{standard};
 
-use crate::status::Status;
-use engine_session::{ShellEnd, shell};
+use crate::status::{Status, status_of};
+use engine_session::{Ended, close_unserved, serve};
 use gate_log::LogFault as OpenFault;
-use session_io::{Client, Desk, End, Gate, Report};
+use session_io::{Client, Desk, Gate};
 use shard_calls::EngineDisk;
 use shard_disk::Trouble;
-use shard_steps::Settings;
+use shard_opening::open;
+use shard_steps::{Settings, Shard};
 use std::alloc::Global;
 use std::hash::RandomState;
 use std::io;
@@ -22,7 +25,7 @@ use tsdb_types::Seed;
 const STANDARD: &str = "-";
 
 /// Serves one client on the standard streams over the directory of this path.
-pub(crate) fn serve_dir<R: RandomSource, K: Desk, G: Gate>(
+pub(crate) fn serve_shell<R: RandomSource, K: Desk, G: Gate>(
     rt: &R,
     alloc: Global,
     desk: &mut K,
@@ -32,17 +35,41 @@ pub(crate) fn serve_dir<R: RandomSource, K: Desk, G: Gate>(
 where
     K::Disk: EngineDisk,
     ensures cause { PathCause K.Disk.Disk (devices K.Source.given K.Source.left K.Source.ended K.Source.health
-        K.Sink.written K.Sink.health K.Clock.moments) path.now
+        K.Sink.written K.Sink.health K.Clock.moments) path.now (standard ∷ [])
         (seen K.health K.dirs K.held K.closed desk.old) (seen K.health K.dirs K.held K.closed desk.new) result }
     ensures out { K.out desk.new ≡ K.out desk.old }
     ensures dirs_out { K.dirs_out desk.new ≡ K.dirs_out desk.old }
 {
+    match open_engine(rt, alloc, desk, path) {
+        Err(status) => status,
+        Ok(shard) => serve_standard(alloc, desk, shard, gate),
+    }
+}
+
+/// Opens the directory of this path, and its engine. Where one can't be opened nothing is left open, and the status says why.
+pub(crate) fn open_engine<R: RandomSource, K: Desk>(
+    rt: &R,
+    alloc: Global,
+    desk: &mut K,
+    path: &str,
+) -> Result<Shard<K::Disk>, Status>
+where
+    K::Disk: EngineDisk,
+    ensures opened { IfOk result (λ shard. (disk : _) × OpensDir path.now disk (seen K.health K.dirs K.held K.closed desk.old) (seen K.health K.dirs K.held K.closed desk.new)
+        × IsOpened K.Disk.Disk disk shard) }
+    ensures ready { IfOk result (IsReady K.Disk.Disk) }
+    ensures unlent { IfOk result (λ shard. shard.views ≡ 0) }
+    ensures refused { IfErr result (PathRefused K.Disk.Disk path.now
+        (seen K.health K.dirs K.held K.closed desk.old) (seen K.health K.dirs K.held K.closed desk.new)) }
+    ensures out { K.out desk.new ≡ K.out desk.old }
+    ensures dirs_out { K.dirs_out desk.new ≡ (if is_ok result then K.dirs_out desk.old + 1 else K.dirs_out desk.old) }
+{
     let Ok((seed, hashing)) = secrets(rt) else {
-        return Status::NoMemory;
+        return Err(Status::NoMemory);
     };
     match desk.open_dir(path) {
-        Err(trouble) => status_of_trouble(trouble),
-        Ok(disk) => serve_disk(alloc, seed, hashing, desk, disk, gate),
+        Err(trouble) => Err(status_of_trouble(trouble)),
+        Ok(disk) => open_disk(alloc, seed, hashing, desk, disk),
     }
 }
 
@@ -54,39 +81,79 @@ fn secrets<R: RandomSource>(rt: &R) -> io::Result<(Seed, RandomState)> {
     Ok((seed, RandomState::new(rt)?))
 }
 
-fn serve_disk<K: Desk, G: Gate>(
+/// Opens the engine of a disk. A disk that is refused is closed.
+fn open_disk<K: Desk>(
     alloc: Global,
     seed: Seed,
     hashing: RandomState,
     desk: &mut K,
     disk: K::Disk,
-    gate: &G,
-) -> Status
+) -> Result<Shard<K::Disk>, Status>
 where
     K::Disk: EngineDisk,
     requires is_out { 0 < K.dirs_out desk.old }
     requires unread { HasNoReader (K.Disk.Disk.handed_out disk) }
-    ensures cause { DiskCause K.Disk.Disk (devices K.Source.given K.Source.left K.Source.ended K.Source.health
-        K.Sink.written K.Sink.health K.Clock.moments) disk
+    ensures opened { IfOk result (λ shard. (desk.new ≡ desk.old) × IsOpened K.Disk.Disk disk shard) }
+    ensures ready { IfOk result (IsReady K.Disk.Disk) }
+    ensures unlent { IfOk result (λ shard. shard.views ≡ 0) }
+    ensures refused { IfErr result (RefusesDisk K.Disk.Disk disk
+        (seen K.health K.dirs K.held K.closed desk.old) (seen K.health K.dirs K.held K.closed desk.new)) }
+    ensures out { K.out desk.new ≡ K.out desk.old }
+    ensures dirs_out { (if is_ok result then K.dirs_out desk.new else K.dirs_out desk.new + 1) ≡ K.dirs_out desk.old }
+{
+    match open(alloc, seed, hashing, disk, Settings::usual()) {
+        Ok(shard) => Ok(shard),
+        Err((disk, fault)) => {
+            desk.close_dir(disk);
+            Err(status_of_opening(fault))
+        }
+    }
+}
+
+fn serve_standard<K: Desk, G: Gate>(
+    alloc: Global,
+    desk: &mut K,
+    shard: Shard<K::Disk>,
+    gate: &G,
+) -> Status
+where
+    K::Disk: EngineDisk,
+    requires dir_out { 0 < K.dirs_out desk.old }
+    requires ready { IsReady K.Disk.Disk shard }
+    requires unlent { shard.views ≡ 0 }
+    ensures cause { (disk : _) → IsOpened K.Disk.Disk disk shard → ClientsCause K.Disk.Disk (devices K.Source.given K.Source.left K.Source.ended K.Source.health
+        K.Sink.written K.Sink.health K.Clock.moments) disk (standard ∷ [])
         (seen K.health K.dirs K.held K.closed desk.old) (seen K.health K.dirs K.held K.closed desk.new) result }
     ensures out { K.out desk.new ≡ K.out desk.old }
     ensures dirs_out { K.dirs_out desk.new + 1 ≡ K.dirs_out desk.old }
 {
     match desk.open_client(STANDARD, STANDARD) {
-        Err(trouble) => {
-            desk.close_dir(disk);
-            status_of_trouble(trouble)
-        }
-        Ok(client) => serve_both(alloc, seed, hashing, desk, disk, client, gate),
+        Err(trouble) => serve_nobody(desk, shard, trouble),
+        Ok(client) => serve_alone(alloc, desk, shard, client, gate),
     }
 }
 
-fn serve_both<K: Desk, G: Gate>(
+/// Closes an engine that serves nobody, since a client couldn't be opened, and its directory.
+pub(crate) fn serve_nobody<K: Desk>(desk: &mut K, shard: Shard<K::Disk>, why: Trouble) -> Status
+where
+    K::Disk: EngineDisk,
+    requires dir_out { 0 < K.dirs_out desk.old }
+    requires ready { IsReady K.Disk.Disk shard }
+    ensures nobody { (disk : _) → IsOpened K.Disk.Disk disk shard → ServesNobody K.Disk.Disk (devices K.Source.given K.Source.left K.Source.ended K.Source.health
+        K.Sink.written K.Sink.health K.Clock.moments) disk why
+        (seen K.health K.dirs K.held K.closed desk.old) (seen K.health K.dirs K.held K.closed desk.new) result }
+    ensures out { K.out desk.new ≡ K.out desk.old }
+    ensures dirs_out { K.dirs_out desk.new + 1 ≡ K.dirs_out desk.old }
+{
+    let (disk, _, closed) = close_unserved(shard);
+    desk.close_dir(disk);
+    status_of_trouble(why).graver(status_of_closing(&closed))
+}
+
+fn serve_alone<K: Desk, G: Gate>(
     alloc: Global,
-    seed: Seed,
-    hashing: RandomState,
     desk: &mut K,
-    disk: K::Disk,
+    shard: Shard<K::Disk>,
     client: Client<K::Source, K::Sink, K::Clock>,
     gate: &G,
 ) -> Status
@@ -94,10 +161,11 @@ where
     K::Disk: EngineDisk,
     requires dir_out { 0 < K.dirs_out desk.old }
     requires is_out { 0 < K.out desk.old }
-    requires unread { HasNoReader (K.Disk.Disk.handed_out disk) }
-    ensures serves { (end : Ended) × ServesBoth K.Disk.Disk (devices K.Source.given K.Source.left K.Source.ended K.Source.health
-        K.Sink.written K.Sink.health K.Clock.moments) disk client end
-        (seen K.health K.dirs K.held K.closed desk.old) (seen K.health K.dirs K.held K.closed desk.new) × (result ≡ status_by_shell end) }
+    requires ready { IsReady K.Disk.Disk shard }
+    requires unlent { shard.views ≡ 0 }
+    ensures serves { (disk : _) → IsOpened K.Disk.Disk disk shard → ServesAll K.Disk.Disk (devices K.Source.given K.Source.left K.Source.ended K.Source.health
+        K.Sink.written K.Sink.health K.Clock.moments) disk (client ∷ [])
+        (seen K.health K.dirs K.held K.closed desk.old) (seen K.health K.dirs K.held K.closed desk.new) result }
     ensures out { K.out desk.new + 1 ≡ K.out desk.old }
     ensures dirs_out { K.dirs_out desk.new + 1 ≡ K.dirs_out desk.old }
 {
@@ -106,56 +174,38 @@ where
         mut sink,
         mut clock,
     } = client;
-    let settings = Settings::usual();
-    let (disk, end) = shell(
-        alloc,
-        seed,
-        hashing,
+    let Ended {
         disk,
-        settings,
-        &mut source,
-        &mut sink,
-        &mut clock,
-        gate,
-    );
+        report,
+        number: _,
+        closed,
+    } = serve(alloc, shard, &mut source, &mut sink, &mut clock, gate);
     let client = Client {
         source,
         sink,
         clock,
     };
-    desk.close_client(client, report_in(&end));
+    desk.close_client(client, Some(&report));
     desk.close_dir(disk);
-    status_of_shell(&end)
+    status_of_closing(&closed).graver(status_of(report.end))
 }
 
-fn report_in(end: &ShellEnd) -> Option<&Report>
-    ensures { option_copied result ≡ report_of end.now }
+pub(crate) fn status_of_closing(closed: &Result<(), Trouble>) -> Status
+    ensures { result ≡ status_by_closing closed.now }
 {
-    match end {
-        ShellEnd::Opening(_) => None,
-        ShellEnd::Done { report, .. } => Some(report),
+    match closed {
+        Ok(()) => Status::Served,
+        Err(trouble) => status_of_trouble(*trouble),
     }
 }
 
-fn status_of_shell(end: &ShellEnd) -> Status
-    ensures { result ≡ status_by_shell end.now }
+fn status_of_opening(fault: OpenFault) -> Status
+    ensures { result ≡ status_by_opening fault }
 {
-    match end {
-        ShellEnd::Opening(OpenFault::Damaged(damage)) => Status::Damaged(*damage),
-        ShellEnd::Opening(OpenFault::Fault) => Status::Fault,
-        ShellEnd::Opening(OpenFault::Memory) => Status::NoMemory,
-        ShellEnd::Done { report, closed, .. } => status_of_done(report.end, closed),
-    }
-}
-
-/// A fault goes before want of memory.
-fn status_of_done(end: End, closed: &Result<(), Trouble>) -> Status
-    ensures { result ≡ status_by_done end closed.now }
-{
-    match (end, closed) {
-        (End::SourceFault | End::SinkFault, _) | (_, Err(Trouble::Fault)) => Status::Fault,
-        (End::Memory, _) | (_, Err(Trouble::Memory)) => Status::NoMemory,
-        (End::Read, Ok(())) => Status::Served,
+    match fault {
+        OpenFault::Damaged(damage) => Status::Damaged(damage),
+        OpenFault::Fault => Status::Fault,
+        OpenFault::Memory => Status::NoMemory,
     }
 }
 

@@ -1,69 +1,28 @@
-//! The folders, the files, the standard streams and the clock of the system.
+//! The folders, the clients' streams and the clock of the system.
 ghost use Rattle.std.specs.Prelude.{◌≡◌, ◌+◌, ◌<◌, ◌≤◌, ◌++◌, [], ◌∷◌, length, map, None, false, option_copied};
 ghost use Rattle.std.specs.Vec.{vec_capacity};
 ghost use Rattle.session_io.specs.Clients.{closed_client};
 ghost use Rattle.session_io.specs.Directories.{left_by};
 
 use crate::folder_disk::FolderDisk;
+use crate::streams::{Input, Output, Streams};
 use session_io::{Client, Closed, Desk, HostClock, HostSink, HostSource, Report, Sink, Source};
 use shard_disk::Trouble;
 use std::alloc::Global;
-use std::fs::{File, Metadata, OpenOptions};
-use std::io::{self, ErrorKind, Read, Stdin, Stdout, Write};
-use std::os::unix::fs::MetadataExt;
-
-/// The name of the standard input and of the standard output.
-const STANDARD: &str = "-";
-
-/// A file that is read, or the standard input.
-#[derive(Drop)]
-pub enum Input {
-    File(File),
-    Standard(Stdin),
-}
-
-impl Read for Input {
-    fn read(&mut self, buffer: &mut [u8]) -> io::Result<usize> {
-        match self {
-            Input::File(file) => file.read(buffer),
-            Input::Standard(stdin) => stdin.read(buffer),
-        }
-    }
-}
-
-/// A file that is written, or the standard output.
-#[derive(Drop)]
-pub enum Output {
-    File(File),
-    Standard(Stdout),
-}
-
-impl Write for Output {
-    fn write(&mut self, bytes: &[u8]) -> io::Result<usize> {
-        match self {
-            Output::File(file) => file.write(bytes),
-            Output::Standard(stdout) => stdout.write(bytes),
-        }
-    }
-
-    fn flush(&mut self) -> io::Result<()> {
-        match self {
-            Output::File(file) => file.flush(),
-            Output::Standard(stdout) => stdout.flush(),
-        }
-    }
-}
+use std::io::ErrorKind;
 
 type HostClient = Client<HostSource<Input>, HostSink<Output>, HostClock<HostRuntime>>;
 
 type HostClosed = Closed<FolderDisk, HostSource<Input>, HostSink<Output>, HostClock<HostRuntime>>;
 
 /// Opens folders by their paths, which are made where they aren't there, and files by their names: the input is read, and the
-/// output is made anew. `-` stands for a standard stream. Input and output that are one regular file are a fault, which
-/// leaves it as it was. What is closed ends with the desk.
+/// output is made anew, at the client's first read, so that nothing is emptied before all clients of a run are open. `-` stands for a
+/// standard stream. An output that is one regular file with an input or an output of any client is a fault, which leaves all as they
+/// were. What is closed ends with the desk.
 #[derive(Drop)]
 pub struct HostDesk {
     rt: HostRuntime,
+    streams: Streams,
     closed: Vec<HostClosed>,
     dirs_out: usize,
     out: usize,
@@ -82,6 +41,7 @@ impl HostDesk {
     {
         HostDesk {
             rt,
+            streams: Streams::new(rt),
             closed: Vec::new(rt.alloc()),
             dirs_out: 0,
             out: 0,
@@ -146,7 +106,7 @@ impl Desk for HostDesk {
         let out = self.out.checked_add(1).ok_or(Trouble::Memory)?;
         let all = out.checked_add(self.dirs_out).ok_or(Trouble::Memory)?;
         self.closed.reserve(all)?;
-        match open_streams(self.rt, input, output) {
+        match self.streams.open(self.rt, input, output) {
             Ok((input, output)) => {
                 self.out = out;
                 Ok(Client {
@@ -175,39 +135,4 @@ impl Desk for HostDesk {
             .push(Closed::Client(client, report.copied()))
             .unwrap();
     }
-}
-
-// The output is made only where the input is there.
-fn open_streams(rt: HostRuntime, input: &str, output: &str) -> io::Result<(Input, Output)> {
-    let input = if input == STANDARD {
-        Input::Standard(rt.stdin())
-    } else {
-        Input::File(File::open(&rt, input)?)
-    };
-    let output = if output == STANDARD {
-        Output::Standard(rt.stdout())
-    } else {
-        Output::File(open_output(rt, &input, output)?)
-    };
-    Ok((input, output))
-}
-
-// The output is emptied only where it isn't the file that is read.
-fn open_output(rt: HostRuntime, input: &Input, path: &str) -> io::Result<File> {
-    let file = OpenOptions::new().write(true).create(true).open(&rt, path)?;
-    let opened = file.metadata()?;
-    if let Input::File(source) = input
-        && is_same_file(&source.metadata()?, &opened)
-    {
-        return Err(io::Error::from(ErrorKind::InvalidInput));
-    }
-    if opened.is_file() {
-        file.set_len(0)?;
-    }
-    Ok(file)
-}
-
-// Whether both are one regular file. A terminal may be read and written.
-fn is_same_file(one: &Metadata, other: &Metadata) -> bool {
-    one.is_file() && one.dev() == other.dev() && one.ino() == other.ino()
 }

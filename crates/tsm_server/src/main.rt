@@ -1,7 +1,9 @@
 //! The program: `tsmd mem IN OUT` serves the requests of the file IN over a store in memory, and writes the replies to the
-//! file OUT; `tsmd shell DIR` serves those of the standard input over the directory DIR.
+//! file OUT; `tsmd shell DIR` serves those of the standard input over the directory DIR; `tsmd run DIR IN OUT [IN OUT ..]` serves several
+//! clients over it at once.
 #![tactic(auto)]
 
+mod clients;
 mod damage_line;
 mod directory;
 mod folder_disk;
@@ -10,13 +12,14 @@ mod host_desk;
 mod memory;
 mod program;
 mod status;
+mod streams;
 #[cfg(test)]
 mod tests;
 mod words;
 
 pub use folder_disk::FolderDisk;
 pub use gate::OpenGate;
-pub use host_desk::{HostDesk, Input, Output};
+pub use host_desk::HostDesk;
 pub use memory::mem;
 pub use program::tsmd;
 use session_io::{HostSink, Word};
@@ -25,6 +28,7 @@ use std::alloc::AllocError;
 use std::env;
 use std::io::ErrorKind;
 use std::process::ExitCode;
+pub use streams::{Input, Output};
 
 fn main(rt: HostRuntime) -> ExitCode {
     let alloc = rt.alloc();

@@ -5,27 +5,33 @@ ghost use Rattle.session_io.specs.declared.client.Word.{Word};
 ghost use Rattle.session_io.specs.declared.report.End.{End};
 ghost use Rattle.tsm_server.specs.Words.{IsCommand, AsksMem};
 ghost use Rattle.tsm_server.specs.Printing.{Takes, said, code_of, line_of};
-ghost use Rattle.tsm_server.specs.Outcomes.{ClosesOne, HasCause, WillServe, devices, status_by};
-ghost use Rattle.tsm_server.specs.Directories.{ShellCause, seen};
+ghost use Rattle.engine_session.specs.Devices.{devices};
+ghost use Rattle.tsm_server.specs.Outcomes.{ClosesOne, HasCause, WillServe, status_by};
+ghost use Rattle.tsm_server.specs.Directories.{DirectoryCause, seen};
 ghost use Rattle.tsm_server.specs.declared.status.Status.{Status as Ending};
 
+use crate::clients::serve_run;
 use crate::damage_line::damage_line;
-use crate::directory::serve_dir;
+use crate::directory::serve_shell;
 use crate::memory::mem;
-use crate::status::Status;
-use crate::words::{mem_names, shell_path};
-use session_io::{Client, Desk, End, Gate, Sink, Word};
+use crate::status::{Status, status_of};
+use crate::words::{mem_names, run_names, shell_path};
+use session_io::{Client, Desk, Gate, Sink, Word};
 use shard_calls::EngineDisk;
 use shard_disk::Trouble;
 use std::alloc::Global;
 use std::random::RandomSource;
+use std::sync::Wait;
+use std::thread::Threads;
 
 /// Does what the words ask for. `mem IN OUT` serves one client over a store in memory, from the input IN to the output OUT.
-/// `shell DIR` serves one client on the standard streams over the directory DIR, which is made where it isn't there. Prints the line
-/// of the status that it answers; a refusal of `out` changes no status. `rt` gives what clients can't know, from which hashes begin;
-/// where it gives none the program ends as for want of memory. `gate` stands for places where tests may hold a session. The line is printed
-/// whole unless `out` refuses it.
-pub fn tsmd<R: RandomSource, K: Desk, G: Gate>(
+/// `shell DIR` serves one client on the standard streams over the directory DIR, which is made where it isn't there. `run DIR IN OUT ..`
+/// serves one client to eight over DIR, each on a thread of its own, from its input IN to its output OUT: no client is opened before
+/// the directory, none is served before all are open, and the directory is closed behind the last one. Prints the line of the status
+/// that it answers, whole unless `out` refuses it; a refusal of `out` changes no status. `rt` makes threads, and gives what clients
+/// can't know, from which hashes begin (no clause asks for it); where it gives none the program ends as for want of memory. `gate`
+/// stands for places where tests may hold a session. Of the commands only `run` waits for other threads.
+pub fn tsmd<R: RandomSource + Threads + Wait + Sync, K: Desk, G: Gate>(
     rt: &R,
     alloc: Global,
     words: &[Word],
@@ -35,13 +41,13 @@ pub fn tsmd<R: RandomSource, K: Desk, G: Gate>(
 ) -> u8
 where
     K::Disk: EngineDisk,
-    // The status has its cause: what `mem` or `shell` made of the desk's clients and directory, or words that are no command.
+    // The status has its cause: what `mem`, `shell` or `run` made of the desk's clients and directory, or words that are no command.
     ensures cause { (status : Ending) × (result ≡ code_of status) × Takes (line_of status)
         (said K.Sink.written K.Sink.health K.Sink.wants out.old) (said K.Sink.written K.Sink.health K.Sink.wants out.new)
         × (HasCause (devices K.Source.given K.Source.left K.Source.ended K.Source.health
         K.Sink.written K.Sink.health K.Clock.moments) words.now (K.health desk.old) (K.health desk.new) (K.held desk.old) (K.held desk.new)
         (K.closed desk.old) (K.closed desk.new) status
-        ⊎ ShellCause K.Disk.Disk (devices K.Source.given K.Source.left K.Source.ended K.Source.health
+        ⊎ DirectoryCause K.Disk.Disk (devices K.Source.given K.Source.left K.Source.ended K.Source.health
         K.Sink.written K.Sink.health K.Clock.moments) words.now
         (seen K.health K.dirs K.held K.closed desk.old) (seen K.health K.dirs K.held K.closed desk.new) status) }
     ensures no_command { (result ≡ 1) ↔ (¬ (IsCommand words.now)) }
@@ -61,14 +67,17 @@ pub fn end<K: Sink>(out: &mut K, status: Status) -> u8
     match status {
         Status::Damaged(damage) => print(out, damage_line(&damage).as_slice()),
         Status::Served => {}
-        Status::NoCommand => print(out, b"usage: tsmd mem IN OUT | shell DIR\n"),
+        Status::NoCommand => print(
+            out,
+            b"usage: tsmd mem IN OUT | shell DIR | run DIR IN OUT [IN OUT ..]\n",
+        ),
         Status::Fault => print(out, b"fault\n"),
         Status::NoMemory => print(out, b"memory\n"),
     }
     status.code()
 }
 
-fn perform<R: RandomSource, K: Desk, G: Gate>(
+fn perform<R: RandomSource + Threads + Wait + Sync, K: Desk, G: Gate>(
     rt: &R,
     alloc: Global,
     words: &[Word],
@@ -80,7 +89,7 @@ where
     ensures cause { HasCause (devices K.Source.given K.Source.left K.Source.ended K.Source.health
         K.Sink.written K.Sink.health K.Clock.moments) words.now (K.health desk.old) (K.health desk.new) (K.held desk.old) (K.held desk.new)
         (K.closed desk.old) (K.closed desk.new) result
-        ⊎ ShellCause K.Disk.Disk (devices K.Source.given K.Source.left K.Source.ended K.Source.health
+        ⊎ DirectoryCause K.Disk.Disk (devices K.Source.given K.Source.left K.Source.ended K.Source.health
         K.Sink.written K.Sink.health K.Clock.moments) words.now
         (seen K.health K.dirs K.held K.closed desk.old) (seen K.health K.dirs K.held K.closed desk.new) result }
     ensures steady { WillServe words.now (K.health desk.old) (K.held desk.old) → result ≢ Status.Fault }
@@ -91,7 +100,10 @@ where
         return serve_one(alloc, desk, input, output);
     }
     if let Some(path) = shell_path(words) {
-        return serve_dir(rt, alloc, desk, path, gate);
+        return serve_shell(rt, alloc, desk, path, gate);
+    }
+    if let Some((path, names)) = run_names(words) {
+        return serve_run(rt, alloc, desk, path, names, gate);
     }
     Status::NoCommand
 }
@@ -139,16 +151,6 @@ fn serve_client<K: Desk>(
     };
     desk.close_client(client, Some(&report));
     status_of(report.end)
-}
-
-fn status_of(end: End) -> Status
-    ensures { result ≡ status_by end }
-{
-    match end {
-        End::Read => Status::Served,
-        End::SourceFault | End::SinkFault => Status::Fault,
-        End::Memory => Status::NoMemory,
-    }
 }
 
 /// Writes the line, or what the sink takes of it until it refuses.

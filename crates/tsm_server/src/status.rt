@@ -1,6 +1,9 @@
 ghost use Rattle.std.specs.Prelude.{◌≡◌};
+ghost use Rattle.tsm_server.specs.Directories.{graver};
+ghost use Rattle.tsm_server.specs.Outcomes.{status_by};
 ghost use Rattle.tsm_server.specs.Printing.{code_of};
 
+use session_io::End;
 use shard_disk::Damage;
 
 /// How a run of the program ended.
@@ -30,5 +33,27 @@ impl Status {
             Status::Fault => 3,
             Status::NoMemory => 4,
         }
+    }
+
+    /// The graver of this one and what came next: a fault goes before want of memory, and this before what went well.
+    pub(crate) fn graver(self, next: Status) -> Status
+        ensures { result ≡ graver self next }
+    {
+        match (self, next) {
+            (Status::Served, next) => next,
+            (Status::NoMemory, Status::Fault) => Status::Fault,
+            (first, _) => first,
+        }
+    }
+}
+
+/// The status of a session that ended so.
+pub(crate) fn status_of(end: End) -> Status
+    ensures { result ≡ status_by end }
+{
+    match end {
+        End::Read => Status::Served,
+        End::SourceFault | End::SinkFault => Status::Fault,
+        End::Memory => Status::NoMemory,
     }
 }

@@ -8,6 +8,9 @@ use crate::{OpenGate, tsmd};
 use mem_disk::MemDisk;
 use session_io::{Client, Closed, Desk, MemClock, MemDesk, MemSink, MemSource, Word};
 use std::alloc::{AllocError, Global};
+use std::random::RandomSource;
+use std::sync::Wait;
+use std::thread::Threads;
 use tsdb_types::Time;
 
 /// What a run answered, printed and wrote to its client.
@@ -63,12 +66,12 @@ fn words_of(alloc: Global, texts: &[&str]) -> Result<Vec<Word>, AllocError> {
 }
 
 /// Runs the program with these words over the desk.
-fn run(
-    rt: &HostRuntime,
+fn run<R: RandomSource + Threads + Wait + Sync>(
+    rt: &R,
+    alloc: Global,
     texts: &[&str],
     mut desk: MemDesk<MemDisk>,
 ) -> Result<Outcome, AllocError> {
-    let alloc = rt.alloc();
     let words = words_of(alloc, texts)?;
     let mut out = MemSink::new(alloc, Vec::new(alloc));
     let status = tsmd(rt, alloc, &words, &mut desk, &mut out, &OpenGate);

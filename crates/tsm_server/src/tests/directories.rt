@@ -4,7 +4,10 @@ use crate::{OpenGate, tsmd};
 use mem_disk::MemDisk;
 use session_io::{Client, Closed, MemClock, MemDesk, MemSink, MemSource};
 use std::alloc::{AllocError, Global};
+use std::random::RandomSource;
+use std::sync::Wait;
 use std::test::Fail;
+use std::thread::Threads;
 
 /// What a run answered, printed and replied, and an image of the directory that it left, where it closed one.
 #[derive(Drop)]
@@ -16,8 +19,12 @@ struct Left {
 }
 
 /// Runs `shell db` with this input, where `db` is an image of the disk.
-fn run(rt: &HostRuntime, disk: &MemDisk, input: &str) -> Result<Left, Fail> {
-    let alloc = rt.alloc();
+fn run<R: RandomSource + Threads + Wait + Sync>(
+    rt: &R,
+    alloc: Global,
+    disk: &MemDisk,
+    input: &str,
+) -> Result<Left, Fail> {
     let disk = disk.image(&[])?;
     let client = Client {
         source: MemSource::new(input.as_bytes().to_vec(alloc)?, Vec::new(alloc)),
@@ -58,7 +65,12 @@ fn a_directory_is_opened_again(rt: HostRuntime) -> Result<(), Fail> {
         printed,
         replies,
         image,
-    } = run(&rt, &disk, "INSERT cpu v=1i 10\nSELECT v FROM cpu\n")?;
+    } = run(
+        &rt,
+        rt.alloc(),
+        &disk,
+        "INSERT cpu v=1i 10\nSELECT v FROM cpu\n",
+    )?;
     assert_eq!(rt; (status, printed.as_str()), (0, ""));
     assert_eq!(rt;
         replies.as_str(),
@@ -70,6 +82,7 @@ fn a_directory_is_opened_again(rt: HostRuntime) -> Result<(), Fail> {
     };
     let second = run(
         &rt,
+        rt.alloc(),
         &disk,
         "INSERT cpu v=true 20\nINSERT cpu v=2i 20\nSELECT v FROM cpu\n",
     )?;

@@ -9,7 +9,7 @@ const INPUT: &str = "INSERT cpu v=1i 10\nINSERT cpu v=2i 20\nSELECT v FROM cpu";
 #[test]
 fn missing_input(rt: HostRuntime) -> Result<(), Fail> {
     let desk = desk(rt.alloc(), INPUT, &[], &[])?;
-    let outcome = run(&rt, &["mem", "nowhere", "out"], desk)?;
+    let outcome = run(&rt, rt.alloc(), &["mem", "nowhere", "out"], desk)?;
     assert_eq!(rt; outcome.status, 3);
     assert_eq!(rt; outcome.printed.as_str(), "fault\n");
     Ok(())
@@ -27,7 +27,7 @@ fn one_call_fails(rt: HostRuntime) -> Result<(), Fail> {
     ];
     for (failing_reads, failing_writes, replies) in &rows {
         let desk = desk(rt.alloc(), INPUT, failing_reads, failing_writes)?;
-        let outcome = run(&rt, &["mem", "in", "out"], desk)?;
+        let outcome = run(&rt, rt.alloc(), &["mem", "in", "out"], desk)?;
         assert_eq!(rt; outcome.status, 3);
         assert_eq!(rt; outcome.printed.as_str(), "fault\n");
         assert_eq!(rt; outcome.replies.as_str(), *replies);

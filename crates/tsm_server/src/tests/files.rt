@@ -3,7 +3,10 @@ use super::words_of;
 use crate::{HostDesk, OpenGate, Output, tsmd};
 use session_io::HostSink;
 use std::fs::File;
+use std::random::RandomSource;
+use std::sync::Wait;
 use std::test::Fail;
+use std::thread::Threads;
 use std::{env, fs, io, process};
 
 /// A new folder of one test.
@@ -17,13 +20,19 @@ fn room(rt: HostRuntime, name: &str) -> io::Result<String> {
 }
 
 /// What a run over these two files ends with and prints.
-fn run(rt: HostRuntime, room: &str, input: &str, output: &str) -> Result<(u8, String), Fail> {
+fn run<R: RandomSource + Threads + Wait + Sync>(
+    threads: &R,
+    rt: HostRuntime,
+    room: &str,
+    input: &str,
+    output: &str,
+) -> Result<(u8, String), Fail> {
     let alloc = rt.alloc();
     let words = words_of(alloc, &["mem", input, output])?;
     let printed = format!(in alloc; "{room}/printed")?;
     let mut desk = HostDesk::new(rt);
     let mut out = HostSink::new(Output::File(File::create(&rt, printed.as_str())?));
-    let status = tsmd(&rt, alloc, &words, &mut desk, &mut out, &OpenGate);
+    let status = tsmd(threads, alloc, &words, &mut desk, &mut out, &OpenGate);
     Ok((status, fs::read_to_string(&rt, printed.as_str())?))
 }
 
@@ -38,7 +47,7 @@ fn an_output_is_made_anew(rt: HostRuntime) -> Result<(), Fail> {
         "INSERT cpu v=1i 10\nSELECT v FROM cpu\n",
     )?;
     fs::write(&rt, output.as_str(), [b'x'; 100].as_slice())?;
-    let (status, printed) = run(rt, room.as_str(), input.as_str(), output.as_str())?;
+    let (status, printed) = run(&rt, rt, room.as_str(), input.as_str(), output.as_str())?;
     let replies = fs::read_to_string(&rt, output.as_str())?;
     fs::remove_dir_all(&rt, room.as_str())?;
     assert_eq!(rt; (status, printed.as_str()), (0, ""));
@@ -56,8 +65,8 @@ fn a_refused_opening_leaves_the_output(rt: HostRuntime) -> Result<(), Fail> {
     let missing = format!(in rt.alloc(); "{}/in", room.as_str())?;
     let output = format!(in rt.alloc(); "{}/out", room.as_str())?;
     fs::write(&rt, output.as_str(), "kept")?;
-    let by_missing = run(rt, room.as_str(), missing.as_str(), output.as_str())?;
-    let by_itself = run(rt, room.as_str(), output.as_str(), output.as_str())?;
+    let by_missing = run(&rt, rt, room.as_str(), missing.as_str(), output.as_str())?;
+    let by_itself = run(&rt, rt, room.as_str(), output.as_str(), output.as_str())?;
     let text = fs::read_to_string(&rt, output.as_str())?;
     fs::remove_dir_all(&rt, room.as_str())?;
     assert_eq!(rt; (by_missing.0, by_itself.0), (3, 3));

@@ -1,13 +1,20 @@
 //! What requests and words are answered.
 use super::{Outcome, desk, desk_at, run};
 use std::alloc::{AllocError, Global};
+use std::random::RandomSource;
+use std::sync::Wait;
 use std::test::Fail;
+use std::thread::Threads;
 use tsdb_types::Time;
 
 /// What the program leaves of this input.
-fn served(rt: &HostRuntime, input: &str) -> Result<Outcome, AllocError> {
-    let desk = desk(rt.alloc(), input, &[], &[])?;
-    run(rt, &["mem", "in", "out"], desk)
+fn served<R: RandomSource + Threads + Wait + Sync>(
+    rt: &R,
+    alloc: Global,
+    input: &str,
+) -> Result<Outcome, AllocError> {
+    let desk = desk(alloc, input, &[], &[])?;
+    run(rt, alloc, &["mem", "in", "out"], desk)
 }
 
 #[test]
@@ -32,7 +39,7 @@ fn requests_are_answered(rt: HostRuntime) -> Result<(), Fail> {
         ),
     ];
     for (input, replies) in &rows {
-        let outcome = served(&rt, input)?;
+        let outcome = served(&rt, rt.alloc(), input)?;
         assert_eq!(rt; outcome.replies.as_str(), *replies);
         assert_eq!(rt; outcome.printed.as_str(), "");
         assert_eq!(rt; outcome.status, 0);
@@ -65,7 +72,7 @@ fn writes_are_refused_by_their_cause(rt: HostRuntime) -> Result<(), Fail> {
         ),
     ];
     for (input, replies) in &rows {
-        let outcome = served(&rt, input)?;
+        let outcome = served(&rt, rt.alloc(), input)?;
         assert_eq!(rt; outcome.replies.as_str(), *replies);
         assert_eq!(rt; outcome.printed.as_str(), "");
         assert_eq!(rt; outcome.status, 0);
@@ -82,7 +89,7 @@ fn a_line_without_a_time_has_its_moment(rt: HostRuntime) -> Result<(), Fail> {
     }
     let input = "INSERT cpu v= 10\nINSERT cpu v=1i\nSELECT v FROM cpu\n";
     let desk = desk_at(alloc, input, &[], &[], moments)?;
-    let outcome = run(&rt, &["mem", "in", "out"], desk)?;
+    let outcome = run(&rt, rt.alloc(), &["mem", "in", "out"], desk)?;
     let wanted = "error L5 BadField line 1\nok 1\nat 1\nname: cpu\ntime v\n7 1\n.\n";
     assert_eq!(rt; outcome.replies.as_str(), wanted);
     Ok(())
@@ -109,7 +116,7 @@ fn a_batch_is_one_request(rt: HostRuntime) -> Result<(), Fail> {
         ),
     ];
     for (input, replies) in &rows {
-        let outcome = served(&rt, input)?;
+        let outcome = served(&rt, rt.alloc(), input)?;
         assert_eq!(rt; outcome.replies.as_str(), *replies);
         assert_eq!(rt; outcome.printed.as_str(), "");
         assert_eq!(rt; outcome.status, 0);
@@ -153,7 +160,7 @@ fn limits_are_exact(rt: HostRuntime) -> Result<(), Fail> {
         ),
     ];
     for (input, replies) in &rows {
-        let outcome = served(&rt, input.as_str())?;
+        let outcome = served(&rt, rt.alloc(), input.as_str())?;
         assert_eq!(rt; outcome.replies.as_str(), *replies);
         assert_eq!(rt; outcome.status, 0);
     }
@@ -162,7 +169,7 @@ fn limits_are_exact(rt: HostRuntime) -> Result<(), Fail> {
 
 #[test]
 fn other_words_are_no_command(rt: HostRuntime) -> Result<(), Fail> {
-    let rows: [&[&str]; 9] = [
+    let rows: [&[&str]; 12] = [
         &[],
         &["shell"],
         &["shell", "-"],
@@ -172,14 +179,20 @@ fn other_words_are_no_command(rt: HostRuntime) -> Result<(), Fail> {
         &["mem", "-", "out"],
         &["mem", "in", ""],
         &["Mem", "in", "out"],
+        &["run", "db"],
+        &["run", "db", "in"],
+        &[
+            "run", "db", "a", "b", "c", "d", "e", "f", "g", "h", "i", "j", "k", "l", "m", "n", "o",
+            "p", "q", "r",
+        ],
     ];
     for words in &rows {
         let desk = desk(rt.alloc(), "SELECT v FROM cpu\n", &[], &[])?;
-        let outcome = run(&rt, words, desk)?;
+        let outcome = run(&rt, rt.alloc(), words, desk)?;
         assert_eq!(rt; outcome.status, 1);
         assert_eq!(rt;
             outcome.printed.as_str(),
-            "usage: tsmd mem IN OUT | shell DIR\n"
+            "usage: tsmd mem IN OUT | shell DIR | run DIR IN OUT [IN OUT ..]\n"
         );
         assert_eq!(rt; outcome.replies.as_str(), "");
     }

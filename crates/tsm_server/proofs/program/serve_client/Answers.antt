@@ -1,6 +1,7 @@
 -- The client was served by its session and closed with the report.
 use Rattle.std.proofs.Common.{refl}
-use Rattle.tsm_server.specs.Outcomes.{devices, closed_by}
+use Rattle.tsm_server.specs.Outcomes.{closed_by}
+use Rattle.engine_session.specs.Devices.{devices}
 use Rattle.tsm_server.proofs.Closing.{told_fresh, rose_from_none, none_from_none, has_ended}
 use Rattle.tsm_server.proofs.program.serve_client.Goals as goal
 

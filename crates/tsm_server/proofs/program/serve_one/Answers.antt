@@ -3,7 +3,8 @@ use Rattle.std.proofs.Common.{◌∙◌, ap, refl, List, sym, subst}
 use Rattle.shard_disk.specs.Health.{Health}
 use Rattle.session_io.specs.Clients.{HandsOut}
 use Rattle.session_io.specs.Directories.{Left}
-use Rattle.tsm_server.specs.Outcomes.{devices, ClosesOne, HasCause}
+use Rattle.tsm_server.specs.Outcomes.{ClosesOne, HasCause}
+use Rattle.engine_session.specs.Devices.{devices}
 use Rattle.tsm_server.proofs.Causes.{caused}
 use Rattle.tsm_server.proofs.program.serve_one.Goals as goal
 
