@@ -1,6 +1,6 @@
 mod IdLemmas
-mod StepLemmas
-mod PairLemmas
+pub mod StepLemmas
+pub mod PairLemmas
 mod TermLemmas
 mod HoldLemmas
 mod CommitLemmas
@@ -8,3 +8,4 @@ mod PlaceLemmas
 mod ReadyLemmas
 mod TellsLemmas
 mod MakingLemmas
+mod NameLemmas

@@ -5,3 +5,4 @@ pub mod Searching
 pub mod Ready
 pub mod Steps
 pub mod Making
+pub mod Names

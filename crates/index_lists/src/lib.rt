@@ -3,14 +3,17 @@
 #![tactic(auto)]
 
 mod change;
+mod heading;
 mod id_list;
 mod lists;
+mod names;
 mod places;
 mod staged;
 mod tags;
 mod term;
 
 pub use change::IndexChange;
+pub use heading::Heading;
 pub use lists::Lists;
 pub use staged::Staged;
 pub use term::Term;

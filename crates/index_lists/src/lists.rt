@@ -1,14 +1,15 @@
 ghost use Rattle.std.specs.Prelude.{◌≡◌, ◌+◌, ◌-◌, ◌<◌, ◌≤◌, ◌^◌, ℕ, length, slice_index_or, set, OnOk};
 
+use crate::names::names_of;
 use crate::places::{
     TermMap, give_room, give_rooms, ids_at, make_rooms, places_of, put_all, put_at, take_all,
     take_at,
 };
-use crate::{IndexChange, Staged, Term};
+use crate::{Heading, IndexChange, Staged, Term};
 use indexmap::IndexMap;
 use std::alloc::{AllocError, Global};
 use std::marker::Model;
-use tsdb_types::Seed;
+use tsdb_types::{Name, Seed};
 
 /// The ids of series by what they have. A contract sees the terms with their lists, and `Holds` says of which pairs of a series and a
 /// field these are the lists.
@@ -38,6 +39,7 @@ impl Model for Lists {
 impl Lists {
     ghost use Rattle.std.specs.Prelude.{◌≡◌, ◌+◌, ◌<◌, ◌≤◌, ◌^◌, ◌∷◌, ◌++◌, [], ℕ, true, List, length, slice_index_or, IfOk, OnErr};
     ghost use Rattle.index_lists.specs.Listing.{AreIdsOf, Holds};
+    ghost use Rattle.index_lists.specs.Names.{AreNamesOf};
     ghost use Rattle.index_lists.specs.Making.{Adds, Forgets, IsThere, Removes};
     ghost use Rattle.index_lists.specs.Steps.{HaveRoom};
     ghost use Rattle.index_lists.specs.Pairs.{Agrees, Pair, after, pair_of};
@@ -70,6 +72,16 @@ impl Lists {
         ensures { (pairs : List Pair) → Holds pairs self.now → AreIdsOf (is_of term.now) pairs result.now }
     {
         ids_at(&self.map, term)
+    }
+
+    /// The names under a heading that some series has, each once and ascending by their bytes.
+    pub fn names(&self, heading: &Heading) -> Result<Vec<Name>, AllocError>
+        ensures { IfOk result (λ names. (pairs : List Pair) → Holds pairs self.now → AreNamesOf heading.now pairs names.items) }
+    {
+        let mut names = names_of(self.alloc, &self.map, heading)?;
+        names.sort_unstable();
+        names.dedup();
+        Ok(names)
     }
 
     /// Makes a change ready: what takes memory of making it. The pairs stay, and so do other changes that are ready.
