@@ -5,13 +5,10 @@ use Rattle.std.specs.Prelude.{option_and_then, IfSome, IfNone}
 use Rattle.std.specs.Str.{bytes_eq, str_to_ascii_lowercase}
 use Rattle.query_model.specs.declared.show.Show.{Show}
 use Rattle.query_model.specs.declared.show.Show.TheVariants as show
-use Rattle.influxql_parser.specs.declared.fault.ReadFault.{ReadFault}
-use Rattle.influxql_parser.specs.declared.fault.ReadFault.TheVariants.{Syntax, TimeInOr, NumberRange, Memory}
-use Rattle.influxql_parser.specs.Faults.{SyntaxWhere}
 use Rattle.influxql_parser.proofs.TokenLemmas.{same-tokens}
 use Rattle.influxql_parser.specs.Tokens.{Token, AreTokens, Word, Quoted, Text, Number, Duration, Sign}
 use Rattle.influxql_parser.specs.GrammarWords.{is_keyword, is_semicolon, without_semicolon, symbol_in, behind_keyword, behind_keywords, name_in, only_name, show_word, measurements_word, series_word, tag_word, keys_word, values_word, field_word, files_word, from_word, with_word, key_word}
-use Rattle.influxql_parser.specs.GrammarShows.{IsFromName, IsListing, IsNoShow, IsOfKey, IsShowStatement, HasNone, is_equal, key_in, named_with_key, behind_equal}
+use Rattle.influxql_parser.specs.GrammarShows.{IsFromName, IsListing, IsNoShow, IsShow, IsOfKey, IsShowStatement, HasNone, is_equal, key_in, named_with_key, behind_equal}
 use Rattle.influxql_parser.proofs.WordLemmas.{decided}
 
 -- two keywords have the same letters
@@ -95,7 +92,7 @@ keywords_of (show.TagValues a k) = show_word ∷ tag_word ∷ values_word ∷ []
 keywords_of (show.FieldKeys a) = show_word ∷ field_word ∷ keys_word ∷ []
 keywords_of show.Files = show_word ∷ files_word ∷ []
 
-begins : (tokens : List Token) (what : Show) → IsShowStatement tokens what → (rest : List Token) × (behind_keywords (keywords_of what) tokens ≡ Some rest)
+pub begins : (tokens : List Token) (what : Show) → IsShowStatement tokens what → (rest : List Token) × (behind_keywords (keywords_of what) tokens ≡ Some rest)
 begins tokens show.Measurements is = ([], is)
 begins tokens (show.Series a) (rest, at, more) = (rest, at)
 begins tokens (show.TagKeys a) (rest, at, more) = (rest, at)
@@ -401,22 +398,27 @@ pub none-at : {A : Type 0} (P : Type 0) (o : Option A) → o ≡ None → IfNone
 none-at P None is holds = holds
 none-at P (Some x) is holds = absurd (none≢some x (sym is))
 
+pub some-at : {A : Type 0} (P : A → Type 0) (o : Option A) (x : A) → o ≡ Some x → IfSome o P → P x
+some-at P None x is holds = absurd (none≢some x is)
+some-at P (Some y) x is holds = subst P (same-some (Some y) y x refl is) holds
+
 pub none-of : {A : Type 0} (P : Type 0) (o : Option A) → ((x : A) → o ≡ Some x → ⊥) → IfNone o P → P
 none-of P None not holds = holds
 none-of P (Some x) not holds = absurd (not x refl)
 
--- a refusal of all tokens is one of the text
-pub text-refused : (text : List ℕ) (tokens body : List Token) (e : ReadFault) → AreTokens tokens text → body ≡ without_semicolon tokens →
-    SyntaxWhere ((what : Show) → IsShowStatement body what → ⊥) e → SyntaxWhere (IsNoShow text) e
-text-refused text tokens body Syntax cut is none = λ what (others, cuts, shows).
+-- what the tokens of a text are, the text is
+pub text-found : (text : List ℕ) (tokens body : List Token) (found : Option Show) → AreTokens tokens text → body ≡ without_semicolon tokens →
+    IfSome found (IsShowStatement body) → IfSome found (IsShow text)
+text-found text tokens body None cut is shows = tt
+text-found text tokens body (Some what) cut is shows = (tokens, cut, subst (λ (ts : List Token). IsShowStatement ts what) is shows)
+
+-- and where they are no SHOW, it is none
+pub text-none : (text : List ℕ) (tokens body : List Token) (found : Option Show) → AreTokens tokens text → body ≡ without_semicolon tokens →
+    IfNone found ((what : Show) → IsShowStatement body what → ⊥) → IfNone found (IsNoShow text)
+text-none text tokens body (Some what) cut is none = tt
+text-none text tokens body None cut is none = λ what (others, cuts, shows).
     none what (subst (λ (ts : List Token). IsShowStatement ts what) (ap (λ (ts : List Token). without_semicolon ts) (same-tokens text others tokens cuts cut) ∙ sym is) shows)
-text-refused text tokens body TimeInOr cut is none = none
-text-refused text tokens body NumberRange cut is none = none
-text-refused text tokens body Memory cut is none = tt
 
 -- what isn't cut into tokens is no SHOW
-pub uncut : (text : List ℕ) (e : ReadFault) → SyntaxWhere ((tokens : List Token) → AreTokens tokens text → ⊥) e → SyntaxWhere (IsNoShow text) e
-uncut text Syntax none = λ what (tokens, cut, shows). none tokens cut
-uncut text TimeInOr none = none
-uncut text NumberRange none = none
-uncut text Memory none = tt
+pub uncut : (text : List ℕ) → ((tokens : List Token) → AreTokens tokens text → ⊥) → IsNoShow text
+uncut text none = λ what (tokens, cut, shows). none tokens cut

@@ -1,19 +1,20 @@
 -- What does the text of a deletion mean, and for what is it refused?
-use Rattle.std.specs.Prelude.{◌≡◌, ℕ, ℤ, pos, ◌+ℤ◌, ◌-ℤ◌, int_le, Bool, true, false, Option, Some, None, List, [], ◌∷◌, unwrap_or, if◌then◌else◌}
+use Rattle.std.specs.Prelude.{◌≡◌, ℕ, ℤ, Bool, true, false, Option, Some, None, List, []}
 use Rattle.std.specs.List.{list_any}
 use Rattle.point_model.specs.Conditions as tags
 use Rattle.point_model.specs.declared.deletion.Deletion.{Deletion}
-use Rattle.query_model.specs.declared.condition.Op.{Op}
-use Rattle.query_model.specs.declared.condition.Op.TheVariants.{Eq, Lt, Le, Gt, Ge}
-use Rattle.query_model.specs.Selected.{first_moment, last_moment}
+use Rattle.query_model.specs.declared.show.Show.{Show}
 use Rattle.influxql_parser.specs.declared.fault.ReadFault.{ReadFault}
 use Rattle.influxql_parser.specs.declared.fault.ReadFault.TheVariants.{Syntax, TimeInOr, NumberRange, Memory}
 use Rattle.influxql_parser.specs.declared.piece.Test.{Test}
 use Rattle.influxql_parser.specs.declared.piece.Test.TheVariants as test
+use Rattle.influxql_parser.specs.Bounds.{lower_bound, upper_bound, times_between}
 use Rattle.influxql_parser.specs.Tokens.{Token, AreTokens}
 use Rattle.influxql_parser.specs.GrammarWords.{without_semicolon}
-use Rattle.influxql_parser.specs.GrammarConditions.{Either, either_pieces, either_tags, either_has_time_in_or, tests_in}
+use Rattle.influxql_parser.specs.GrammarConditions.{Either, either_pieces, either_has_time_in_or, tests_in}
 use Rattle.influxql_parser.specs.GrammarDeletions.{DeletionText, IsDeletionStatement}
+use Rattle.influxql_parser.specs.GrammarShows.{IsShow}
+use Rattle.influxql_parser.specs.DeletionTags.{deletion_either_tags}
 
 -- The text reads as this deletion at this moment, whatever its numbers are and wherever its comparisons of time stand.
 pub record ReadsAs (text : List ℕ) (now : ℤ) (deletion : DeletionText) : Type 0 where
@@ -37,64 +38,13 @@ is_out_of_range (test.Time op (Some moment)) = false
 is_out_of_range (test.Compare name op (Some literal)) = false
 is_out_of_range other = true
 
--- the least time that passes a comparison of time by itself, where it gives one
-abbrev pub least_passing : Op → ℤ → Option ℤ
-least_passing Eq moment = Some moment
-least_passing Ge moment = Some moment
-least_passing Gt moment = Some (moment +ℤ pos 1)
-least_passing other moment = None
-
--- the greatest
-abbrev pub greatest_passing : Op → ℤ → Option ℤ
-greatest_passing Eq moment = Some moment
-greatest_passing Le moment = Some moment
-greatest_passing Lt moment = Some (moment -ℤ pos 1)
-greatest_passing other moment = None
-
-abbrev pub lower_bound_of : Test → Option ℤ
-lower_bound_of (test.Time op (Some moment)) = least_passing op moment
-lower_bound_of other = None
-
-abbrev pub upper_bound_of : Test → Option ℤ
-upper_bound_of (test.Time op (Some moment)) = greatest_passing op moment
-upper_bound_of other = None
-
-abbrev pub greater_of : Option ℤ → Option ℤ → Option ℤ
-greater_of None bound = bound
-greater_of (Some a) None = Some a
-greater_of (Some a) (Some b) = if int_le a b then Some b else Some a
-
-abbrev pub less_of : Option ℤ → Option ℤ → Option ℤ
-less_of None bound = bound
-less_of (Some a) None = Some a
-less_of (Some a) (Some b) = if int_le a b then Some a else Some b
-
--- the greatest lower bound that comparisons give
-abbrev pub lower_bound : List Test → Option ℤ
-lower_bound [] = None
-lower_bound (test ∷ tests) = greater_of (lower_bound_of test) (lower_bound tests)
-
--- the least upper one
-abbrev pub upper_bound : List Test → Option ℤ
-upper_bound [] = None
-upper_bound (test ∷ tests) = less_of (upper_bound_of test) (upper_bound tests)
-
--- The first and the last time between two bounds; a bound that isn't given is the first or the last moment. Where no time
--- is between them, the last moment and the first.
-abbrev pub times_between : Option ℤ → Option ℤ → ℤ × ℤ
-times_between lower upper =
-    by (unwrap_or (greater_of lower (Some first_moment)) first_moment) (unwrap_or (less_of upper (Some last_moment)) last_moment)
-  where
-    by : ℤ → ℤ → ℤ × ℤ
-    by from to = if int_le from to then (from, to) else (last_moment, first_moment)
-
 -- the times of a deletion
 abbrev pub times_of : Option Either → ℤ × ℤ
 times_of condition = times_between (lower_bound (tests_of condition)) (upper_bound (tests_of condition))
 
 abbrev pub tags_of : Option Either → tags.Condition
 tags_of None = tags.True
-tags_of (Some condition) = either_tags condition
+tags_of (Some condition) = deletion_either_tags condition
 
 -- the deletion that a text means
 abbrev pub deletion_of : DeletionText → Deletion
@@ -105,23 +55,43 @@ deletion_of deletion = record {
   to = (times_of deletion.condition).1;
 }
 
--- The text means this deletion at this moment, and is refused for nothing.
-pub record IsDeletion (text : List ℕ) (now : ℤ) (deletion : Deletion) : Type 0 where
+-- What reads as one of these means this deletion, and is refused for nothing.
+pub record MeansDeletion (Reads : DeletionText → Type 0) (deletion : Deletion) : Type 0 where
   pub read : DeletionText
-  pub reads : ReadsAs text now read
+  pub reads : Reads read
   pub times_apart : has_time_in_or read.condition ≡ false
   pub in_range : list_any is_out_of_range (tests_of read.condition) ≡ false
   pub means : deletion ≡ deletion_of read
 
--- A deletion is refused for its one cause, the first of these: the text has no reading; a comparison of time stands under an OR;
--- a number or a moment is out of range.
+-- it reads as none
+abbrev pub HasNoReading : (DeletionText → Type 0) → Type 0
+HasNoReading Reads = (read : DeletionText) → Reads read → ⊥
+
+-- It reads as one, and is refused for its one cause, the first of these: a comparison of time stands under an OR; a number or a
+-- moment is out of range.
+abbrev pub IsRefusedFor : (DeletionText → Type 0) → ReadFault → Type 0
+IsRefusedFor Reads Syntax = ⊥
+IsRefusedFor Reads TimeInOr = (read : DeletionText) × Reads read × (has_time_in_or read.condition ≡ true)
+IsRefusedFor Reads NumberRange =
+    (read : DeletionText) × Reads read × (has_time_in_or read.condition ≡ false) × (list_any is_out_of_range (tests_of read.condition) ≡ true)
+IsRefusedFor Reads Memory = Unit {0}
+
+-- the text means this deletion at this moment
+abbrev pub IsDeletion : List ℕ → ℤ → Deletion → Type 0
+IsDeletion text now deletion = MeansDeletion (ReadsAs text now) deletion
+
+-- the text is no DELETE and no DROP
+abbrev pub IsNoDeletion : List ℕ → ℤ → Type 0
+IsNoDeletion text now = HasNoReading (ReadsAs text now)
+
+-- the text is a DELETE or a DROP that is refused for this
 abbrev pub IsRefused : List ℕ → ℤ → ReadFault → Type 0
-IsRefused text now Syntax = (read : DeletionText) → ReadsAs text now read → ⊥
-IsRefused text now TimeInOr = (read : DeletionText) × ReadsAs text now read × (has_time_in_or read.condition ≡ true)
-IsRefused text now NumberRange =
-    (read : DeletionText) × ReadsAs text now read × (has_time_in_or read.condition ≡ false) × (list_any is_out_of_range (tests_of read.condition) ≡ true)
-IsRefused text now Memory = Unit {0}
+IsRefused text now fault = IsRefusedFor (ReadsAs text now) fault
 
 -- a text is one deletion at most
-abbrev pub OneReading : Type 0
-OneReading = (text : List ℕ) (now : ℤ) (read other : DeletionText) → ReadsAs text now read → ReadsAs text now other → read ≡ other
+abbrev pub OneDeletion : Type 0
+OneDeletion = (text : List ℕ) (now : ℤ) (read other : DeletionText) → ReadsAs text now read → ReadsAs text now other → read ≡ other
+
+-- no text is a SHOW and a deletion
+abbrev pub NoShowIsDeletion : Type 0
+NoShowIsDeletion = (text : List ℕ) (now : ℤ) (what : Show) (read : DeletionText) → IsShow text what → ReadsAs text now read → ⊥

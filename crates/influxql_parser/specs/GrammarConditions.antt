@@ -1,10 +1,7 @@
--- How do comparisons, AND, OR and parentheses make a condition, and what does it mean for the tags of a series?
-use Rattle.std.specs.Prelude.{ℕ, suc, ◌-◌, Bool, true, false, ◌&&◌, ◌||◌, nat_lt, Some, List, [], ◌∷◌, ◌++◌}
+-- How do comparisons, AND, OR and parentheses make a condition?
+use Rattle.std.specs.Prelude.{ℕ, suc, ◌-◌, Bool, true, false, ◌&&◌, ◌||◌, nat_lt, List, [], ◌∷◌, ◌++◌}
 use Rattle.std.specs.List.{list_any}
-use Rattle.point_model.specs.Conditions as tags
 use Rattle.point_model.specs.declared.part.Join.TheVariants as join
-use Rattle.query_model.specs.declared.condition.Literal.TheVariants as literal
-use Rattle.query_model.specs.declared.condition.Op.TheVariants.{Eq, Ne}
 use Rattle.influxql_parser.specs.declared.piece.Piece.{Piece}
 use Rattle.influxql_parser.specs.declared.piece.Piece.TheVariants as piece
 use Rattle.influxql_parser.specs.declared.piece.Test.{Test}
@@ -72,23 +69,3 @@ abbrev mutual
   either_has_time_in_or (OneBoth both) = both_has_time_in_or both
   either_has_time_in_or (Or either both) =
       list_any is_of_time (tests_in (either_pieces either)) || list_any is_of_time (tests_in (both_pieces both))
-
--- a comparison, as one of a tag: a name with a string for equality; what a comparison of time leaves is met by all
-abbrev pub tag_test : Test → tags.Condition
-tag_test (test.Compare name Eq (Some (literal.Text text))) = tags.Eq name text
-tag_test (test.Compare name Ne (Some (literal.Text text))) = tags.Ne name text
-tag_test other = tags.True
-
--- what a condition asks of tags
-abbrev mutual
-  pub atom_tags : Atom → tags.Condition
-  atom_tags (Tested test) = tag_test test
-  atom_tags (Inner condition) = either_tags condition
-
-  pub both_tags : Both → tags.Condition
-  both_tags (OneAtom atom) = atom_tags atom
-  both_tags (And both atom) = tags.And (both_tags both) (atom_tags atom)
-
-  pub either_tags : Either → tags.Condition
-  either_tags (OneBoth both) = both_tags both
-  either_tags (Or either both) = tags.Or (either_tags either) (both_tags both)

@@ -2,11 +2,12 @@ pub mod Numbers
 pub mod Parts
 pub mod Tokens
 pub mod TokenViews
-pub mod Faults
 pub mod GrammarWords
 pub mod CivilTimes
 pub mod GrammarPieces
 pub mod GrammarConditions
-pub mod GrammarDeletions
-pub mod Deletions
 pub mod GrammarShows
+pub mod GrammarDeletions
+pub mod DeletionTags
+pub mod Bounds
+pub mod Deletions

@@ -1,32 +1,30 @@
-ghost use Rattle.std.specs.Prelude.{◌≡◌, ◌≤◌, ◌<◌, ◌≢◌, IfSome, IfNone, Some, None, ◌∷◌, [], length, List, IfOk, IfErr, true, false, ℕ};
+ghost use Rattle.std.specs.Prelude.{◌≡◌, ◌≤◌, ◌<◌, ◌≢◌, IfSome, IfNone, Some, None, ◌∷◌, [], length, List, IfOk, true, false, ℕ};
 ghost use Rattle.std.specs.Char.{is_ascii_digit};
 ghost use Rattle.influxql_parser.specs.Numbers.{front_passing, behind_passing};
 ghost use Rattle.influxql_parser.specs.Tokens as spec;
 ghost use Rattle.influxql_parser.specs.Tokens.{Token, AreTokens, before_quote, from_quote, is_blank, is_of_word};
-ghost use Rattle.influxql_parser.specs.Faults.{SyntaxWhere};
 
-use crate::fault::ReadFault;
 use crate::number::{digits_and_rest, duration_at, number_of};
 use crate::token::{Form, Symbol, Token};
-use std::alloc::Global;
+use std::alloc::{AllocError, Global};
 
-// Cuts a text into its tokens.
-pub fn tokens_of(alloc: Global, text: &[u8]) -> Result<Vec<Token<'_>>, ReadFault>
-    ensures found { IfOk result (λ tokens. AreTokens tokens.items text.now) }
-    ensures refused { IfErr result (SyntaxWhere ((tokens : List spec.Token) → AreTokens tokens text.now → ⊥)) }
+// Cuts a text into its tokens, where it is made of some.
+pub fn tokens_of(alloc: Global, text: &[u8]) -> Result<Option<Vec<Token<'_>>>, AllocError>
+    ensures found { IfOk result (λ found. IfSome found (λ tokens. AreTokens tokens.items text.now)) }
+    ensures none { IfOk result (λ found. IfNone found ((tokens : List spec.Token) → AreTokens tokens text.now → ⊥)) }
 {
     let mut tokens = Vec::new(alloc);
     let mut left = text;
     while let Some(ahead) = past_blanks(left) {
         match token_at(ahead) {
-            None => return Err(ReadFault::Syntax),
+            None => return Ok(None),
             Some((token, behind)) => {
                 tokens.push(token)?;
                 left = behind;
             }
         }
     }
-    Ok(tokens)
+    Ok(Some(tokens))
 }
 
 // What stands behind the blanks at the front, if anything does.

@@ -1,53 +1,52 @@
-ghost use Rattle.std.specs.Prelude.{◌≡◌, ℕ, List, Option, Some, None, [], ◌∷◌, IfOk, IfErr, IfSome, IfNone, IsTrue, ◌↔◌};
+ghost use Rattle.std.specs.Prelude.{◌≡◌, ℕ, List, Option, Some, None, [], ◌∷◌, IfOk, IfSome, IfNone, IsTrue, ◌↔◌};
 ghost use Rattle.query_model.specs.declared.show.Show.{Show};
 ghost use Rattle.query_model.specs.declared.show.Show.TheVariants as what;
-ghost use Rattle.influxql_parser.specs.Faults.{SyntaxWhere};
-ghost use Rattle.influxql_parser.specs.GrammarWords as words;
 ghost use Rattle.influxql_parser.specs.GrammarWords.{behind_keywords};
 ghost use Rattle.influxql_parser.specs.GrammarShows as show;
 ghost use Rattle.influxql_parser.specs.GrammarShows.{HasNone, IsOfKey, IsShow, IsNoShow, OneShow, IsShowStatement, IsFromName, IsListing};
 
-use crate::fault::ReadFault;
 use crate::keyword::{behind_keyword, behind_three, behind_two, symbol_in, without_semicolon};
 use crate::lexer::tokens_of;
 use crate::token::{Symbol, Token};
-use crate::word::name_in;
+use crate::word::{name_in, only_name};
 use query_model::Show;
 use std::alloc::{AllocError, Global};
 use tsdb_types::Name;
 
-/// Reads a SHOW. Any other text is refused as no statement.
-pub fn read_show(alloc: Global, text: &str) -> Result<Show, ReadFault>
-    ensures ok { IfOk result (IsShow text.now) }
-    ensures refused { IfErr result (SyntaxWhere (IsNoShow text.now)) }
+/// Reads a SHOW; none where the text is no SHOW.
+pub fn read_show(alloc: Global, text: &str) -> Result<Option<Show>, AllocError>
+    ensures found { IfOk result (λ found. IfSome found (IsShow text.now)) }
+    ensures none { IfOk result (λ found. IfNone found (IsNoShow text.now)) }
 {
-    let tokens = tokens_of(alloc, text.as_bytes())?;
-    show_in(alloc, without_semicolon(&tokens))
+    match tokens_of(alloc, text.as_bytes())? {
+        None => Ok(None),
+        Some(tokens) => show_in(alloc, without_semicolon(&tokens)),
+    }
 }
 
 // The SHOW that these tokens are.
-fn show_in(alloc: Global, tokens: &[Token<'_>]) -> Result<Show, ReadFault>
-    ensures ok { IfOk result (IsShowStatement tokens.now) }
-    ensures refused { IfErr result (SyntaxWhere ((show : Show) → IsShowStatement tokens.now show → ⊥)) }
+fn show_in(alloc: Global, tokens: &[Token<'_>]) -> Result<Option<Show>, AllocError>
+    ensures found { IfOk result (λ found. IfSome found (IsShowStatement tokens.now)) }
+    ensures none { IfOk result (λ found. IfNone found ((show : Show) → IsShowStatement tokens.now show → ⊥)) }
 {
     if are_two(b"show", b"measurements", tokens) {
-        return Ok(Show::Measurements);
+        return Ok(Some(Show::Measurements));
     }
     if are_two(b"show", b"files", tokens) {
-        return Ok(Show::Files);
+        return Ok(Some(Show::Files));
     }
     if let Some(name) = listing_of_two(alloc, b"show", b"series", tokens)? {
-        return Ok(Show::Series(name));
+        return Ok(Some(Show::Series(name)));
     }
     if let Some(name) = listing_of_three(alloc, b"show", b"tag", b"keys", tokens)? {
-        return Ok(Show::TagKeys(name));
+        return Ok(Some(Show::TagKeys(name)));
     }
     if let Some(name) = listing_of_three(alloc, b"show", b"field", b"keys", tokens)? {
-        return Ok(Show::FieldKeys(name));
+        return Ok(Some(Show::FieldKeys(name)));
     }
     match tag_values(alloc, tokens)? {
-        Some((name, key)) => Ok(Show::TagValues(name, key)),
-        None => Err(ReadFault::Syntax),
+        Some((name, key)) => Ok(Some(Show::TagValues(name, key))),
+        None => Ok(None),
     }
 }
 
@@ -108,22 +107,6 @@ fn from_name(alloc: Global, tokens: &[Token<'_>]) -> Result<Option<Option<Name>>
             None => Ok(None),
             Some(name) => Ok(Some(Some(name))),
         },
-    }
-}
-
-// The name that the one token is.
-fn only_name(alloc: Global, tokens: &[Token<'_>]) -> Result<Option<Name>, AllocError>
-    ensures { IfOk result (λ name. name ≡ words.only_name tokens.now) }
-{
-    match tokens.split_first() {
-        None => Ok(None),
-        Some((named, behind)) => {
-            if behind.is_empty() {
-                name_in(alloc, named)
-            } else {
-                Ok(None)
-            }
-        }
     }
 }
 

@@ -144,6 +144,22 @@ fn is_name(text: &[u8]) -> bool
     }
 }
 
+// The name that the one token is.
+pub fn only_name(alloc: Global, tokens: &[Token<'_>]) -> Result<Option<Name>, AllocError>
+    ensures { IfOk result (λ name. name ≡ spec.only_name tokens.now) }
+{
+    match tokens.split_first() {
+        None => Ok(None),
+        Some((named, behind)) => {
+            if behind.is_empty() {
+                name_in(alloc, named)
+            } else {
+                Ok(None)
+            }
+        }
+    }
+}
+
 // The text that stands between quotes.
 pub fn text_in(alloc: Global, raw: &[u8]) -> Result<Option<TagText>, AllocError>
     ensures { IfOk result (λ text. text ≡ spec.text_in raw.now) }

@@ -3,8 +3,8 @@ use Rattle.influxql_parser.specs.Tokens.{Token}
 use Rattle.influxql_parser.proofs.TokenLemmas.{TokensLeft, tokens-next, tokens-none, tokens-end}
 use Rattle.influxql_parser.proofs.lexer.tokens_of.Goals as goal
 
-pub returns-in-None-clause-refused : goal.returns-in-None-clause-refused
-returns-in-None-clause-refused c = λ tokens are.
+pub returns-in-None-clause-none : goal.returns-in-None-clause-none
+returns-in-None-clause-none c = λ tokens are.
     tokens-none c.args.text.now c.loop-ahead.tokens.items c.loop-ahead.left.now c.in-Some.ahead.now c.loop-ahead.invariant c.in-Some.ensures.found.0 c.in-Some.ensures.found.1 c.in-None.ensures.none tokens are
 
 pub loop-ahead-preserved : goal.loop-ahead-preserved

@@ -6,8 +6,8 @@ use Rattle.influxql_parser.specs.GrammarShows.{HasNone, IsListing, IsShowStateme
 use Rattle.influxql_parser.proofs.ShowLemmas.{none-at, none-of, no-statement}
 use Rattle.influxql_parser.proofs.show.show_in.Goals as goal
 
-pub returns-in-None-clause-refused : goal.returns-in-None-clause-refused
-returns-in-None-clause-refused c =
+pub returns-in-None-clause-none : goal.returns-in-None-clause-none
+returns-in-None-clause-none c =
     let tokens = c.args.tokens.now in
     no-statement tokens
     (λ is. false≢true (sym c.if-are_two.false ∙ c.are_two.ensures.1 is))

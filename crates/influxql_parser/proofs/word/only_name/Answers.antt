@@ -1,7 +1,7 @@
 use Rattle.std.proofs.Common.{sym, ◌∙◌}
 use Rattle.std.proofs.lemmas.Result.{IfOk-weaker}
 use Rattle.influxql_parser.proofs.ShowLemmas.{only-of, only-none}
-use Rattle.influxql_parser.proofs.show.only_name.Goals as goal
+use Rattle.influxql_parser.proofs.word.only_name.Goals as goal
 
 pub returns-then-is_empty : goal.returns-then-is_empty
 returns-then-is_empty c =
