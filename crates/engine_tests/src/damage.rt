@@ -3,7 +3,7 @@ ghost use Rattle.manifest_log.specs.Calls.{HasNoReader};
 
 use crate::engines::{SCRIPT, Seen, after, run};
 use mem_disk::MemDisk;
-use shard_disk::{Damage, Disk, Trouble, Why};
+use shard_disk::{Damage, Disk, Fault, Trouble, Why};
 use shard_opening::OpenFault;
 use shard_recover::is_there;
 use shard_steps::Settings;
@@ -47,10 +47,18 @@ fn changed(rt: &HostRuntime, no: u32, at: u64, byte: u8) -> Option<Seen> {
     Some(run(rt, disk, Settings::usual(), &[]).1)
 }
 
+// A file less.
+fn take_away<D: Disk>(disk: &mut D, no: u32) -> Result<(), Fault>
+    requires unread { HasNoReader (D.handed_out disk.old) }
+    ensures unread { HasNoReader (D.handed_out disk.new) }
+{
+    disk.remove(no)
+}
+
 // What opening shows where a file isn't there.
 fn without(rt: &HostRuntime, no: u32) -> Option<Seen> {
     let mut disk = written(rt)?;
-    disk.remove(no).ok()?;
+    take_away(&mut disk, no).ok()?;
     Some(run(rt, disk, Settings::usual(), &[]).1)
 }
 
