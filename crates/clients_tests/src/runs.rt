@@ -4,8 +4,8 @@ ghost use Rattle.manifest_log.specs.Calls.{HasNoReader};
 
 use crate::gates::{Hold, Meeting};
 use engine_clients::{Ended, EngineClient, serve};
-use mem_disk::MemDisk;
 use session_io::{Client, MemClock, MemSink, MemSource};
+use shard_calls::EngineDisk;
 use shard_disk::Disk;
 use shard_opening::open;
 use shard_steps::Settings;
@@ -17,12 +17,13 @@ use std::test::Fail;
 use std::thread::Threads;
 use tsdb_types::Seed;
 
-type MemClient = EngineClient<MemSource, MemSink, MemClock, MemDisk>;
+/// A client in memory over an engine on such a disk.
+type MemClient<D> = EngineClient<MemSource, MemSink, MemClock, D>;
 
 /// What a run of two clients left.
 #[derive(Drop)]
-pub(crate) struct Left {
-    pub disk: MemDisk,
+pub(crate) struct Left<D> {
+    pub disk: D,
     pub first: Option<MemSink>,
     pub second: Option<MemSink>,
     /// The number of the last entry, where the run was whole.
@@ -32,15 +33,15 @@ pub(crate) struct Left {
 }
 
 /// Serves two clients with these requests over the disk.
-pub(crate) fn both<R: Threads + Wait + Sync + RandomSource>(
+pub(crate) fn both<D: EngineDisk + Drop, R: Threads + Wait + Sync + RandomSource>(
     rt: &R,
     alloc: Global,
-    disk: MemDisk,
+    disk: D,
     holds: &[Hold],
     first: &str,
     second: &str,
-) -> Result<Left, Fail>
-    requires unread { HasNoReader (⟦<MemDisk as Disk>⟧.handed_out disk) }
+) -> Result<Left<D>, Fail>
+    requires unread { HasNoReader (D.handed_out disk) }
 {
     let gate = Meeting::new(holds);
     let hashing = RandomState::new(rt)?;
@@ -78,7 +79,7 @@ fn client(
 }
 
 // Where the replies to a client went.
-fn sink(client: Option<MemClient>) -> Option<MemSink>
+fn sink<D: EngineDisk>(client: Option<MemClient<D>>) -> Option<MemSink>
     requires { IfSome client (λ client. client.pass ≡ None) }
 {
     match client {
@@ -99,7 +100,7 @@ pub(crate) fn told(sink: &Option<MemSink>, replies: &[u8]) -> bool {
 }
 
 // The disk, and the number of the last entry where the clients were served and the engine was closed without a doubt.
-fn whole(ended: Ended<MemDisk>) -> (MemDisk, Option<u64>) {
+fn whole<D>(ended: Ended<D>) -> (D, Option<u64>) {
     let Ended {
         disk,
         served,
