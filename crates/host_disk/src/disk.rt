@@ -277,6 +277,10 @@ where
         Ok(len)
     }
 
+    fn next_number(&self) -> u32 {
+        self.next
+    }
+
     fn remove(&mut self, no: u32) -> Result<(), Fault> {
         self.logs.forget(no);
         if remove_durably(&mut self.folder, no).is_err() {

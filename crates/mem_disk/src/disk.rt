@@ -332,6 +332,12 @@ impl Disk for MemDisk {
         Ok(self.contents.files.get(&no).unwrap().len() as u64)
     }
 
+    fn next_number(&self) -> u32
+        ensures { result ≡ (handed_out_of self.now).next_number }
+    {
+        self.contents.next
+    }
+
     fn remove(&mut self, no: u32) -> Result<(), Fault>
         requires { (handed_out_of self.old).readers no ≡ 0 }
         ensures removed { OnOk result (ChangesAt no Vanishes (files_of self.old) (files_of self.new)) }

@@ -210,6 +210,12 @@ impl Disk for Fuse {
         self.disk.len(no)
     }
 
+    fn next_number(&self) -> u32
+        ensures { result ≡ (handed_out_of (disk_of self.now)).next_number }
+    {
+        self.disk.next_number()
+    }
+
     fn remove(&mut self, no: u32) -> Result<(), Fault>
         requires { (handed_out_of (disk_of self.old)).readers no ≡ 0 }
         ensures removed { OnOk result (ChangesAt no Vanishes (files_of (disk_of self.old)) (files_of (disk_of self.new))) }

@@ -93,6 +93,10 @@ impl Disk for FolderDisk {
         self.disk.len(no)
     }
 
+    fn next_number(&self) -> u32 {
+        self.disk.next_number()
+    }
+
     fn remove(&mut self, no: u32) -> Result<(), Fault> {
         self.disk.remove(no)
     }
