@@ -1,5 +1,5 @@
 -- The samples that are left are cells that a deletion spares, and each field with such a cell has one.
-use Rattle.std.proofs.Common.{◌≡◌, ◌∙◌, ap, sym, refl, subst, inl, inr, ⊎_elim, ◌&&◌, ℕ, ℤ, Bool, true, false, not, cond, List, [], ◌∷◌, Option, Some, None, IsSome, is_some, option_map, option_and_then, IsTrue}
+use Rattle.std.proofs.Common.{◌≡◌, ◌∙◌, ap, sym, refl, subst, inl, inr, ⊎_elim, ◌&&◌, ℕ, ℤ, Bool, true, false, not, cond, List, [], ◌∷◌, Option, Some, None, IsSome, is_some, option_map, option_and_then}
 use Rattle.std.specs.BTreeMap.{get, is_at, IsOrdered}
 use Rattle.std.specs.Cmp.{int_cmp_total, eq_by_cmp_equiv}
 use Rattle.std.specs.Cmp.Lexicographic.{nat_list_cmp_total}
@@ -90,8 +90,7 @@ module _ (deletion : Deletion) where
       let one = offered_by (time_kept deletion met) rows.entries time e in
       let row = one.0 in
       let kept = kept_some (is_kept deletion met row.0 row.1) row.0 time one.2 in
-      let found : get int_cmp rows row.0 ≡ Some row.1 = in_found int_cmp_total exact_signed rows sorted row.0 row.1 one.1 in
-      (
+      let found : get int_cmp rows row.0 ≡ Some row.1 = in_found int_cmp_total exact_signed rows sorted row.0 row.1 one.1 in (
         subst (λ (t : ℤ). IsSome (held (slot_of rows t))) kept.1 (ap is_some (ap held found) ∙ and_first (is_some row.1) (not (met && inside row.0)) kept.0),
         subst (λ (t : ℤ). (met && inside t) ≡ false) kept.1 (not_true (met && inside row.0) (and_second (is_some row.1) (not (met && inside row.0)) kept.0)),
       )
@@ -115,8 +114,7 @@ module _ (deletion : Deletion) where
       let time = mapped (made column.0) (first_offered (time_kept deletion met) column.1.entries) cell own.1 in
       let same : column.0 ≡ field = tells_apart exact_bytes column.0 field own.0 in
       let row = row_kept met column.1 (ordered_rows fields.entries all column.0 column.1 one.1) time.0 time.1 in
-      let found : get text_cmp fields field ≡ Some column.1 = ap (get text_cmp fields) (sym same) ∙ in_found nat_list_cmp_total exact_bytes fields sorted column.0 column.1 one.1 in
-      (
+      let found : get text_cmp fields field ≡ Some column.1 = ap (get text_cmp fields) (sym same) ∙ in_found nat_list_cmp_total exact_bytes fields sorted column.0 column.1 one.1 in (
         ap (λ (c : Cell). c.series) (sym time.2),
         ap (λ (c : Cell). c.field) (sym time.2) ∙ same,
         subst (λ (t : ℤ). IsSome (held (slot_in fields field t))) (ap (λ (c : Cell). c.time) time.2)
@@ -171,8 +169,7 @@ module _ (deletion : Deletion) where
         let order = ordered_of slots.entries all entry.0 entry.1 one.1 own.0 in
         let kept = column_kept met entry.0 entry.1 order.0 order.1 field cell own.1 in
         let of : is_series_of deletion.measurement cell.series ≡ true = ap (is_series_of deletion.measurement) kept.0 ∙ own.0 in
-        let found : get text_cmp slots cell.series ≡ Some entry.1 = ap (get text_cmp slots) kept.0 ∙ in_found nat_list_cmp_total exact_bytes slots sorted entry.0 entry.1 one.1 in
-        (
+        let found : get text_cmp slots cell.series ≡ Some entry.1 = ap (get text_cmp slots) kept.0 ∙ in_found nat_list_cmp_total exact_bytes slots sorted entry.0 entry.1 one.1 in (
           of,
           kept.1,
           (

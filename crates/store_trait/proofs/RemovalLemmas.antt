@@ -40,8 +40,7 @@ is_removal deletion slots removal named heading sorted all left = record {
   named = named;
   heading = heading;
   placed = λ field cell is.
-      let placed = left_placed deletion slots sorted all field cell (sym (left field) ∙ is) in
-      (
+      let placed = left_placed deletion slots sorted all field cell (sym (left field) ∙ is) in (
         text_same (measurement_head cell.series) (measurement_text deletion.measurement) (sym (of_measurement deletion.measurement cell.series named) ∙ placed.0) ∙ sym heading,
         placed.1,
         placed.2,
@@ -151,12 +150,13 @@ module _ (slots left : Slots) (samples taken : Samples) (points : Points) (delet
       let apart : m ≢ removal.heading = kept_head m f sample.0 e sample.1 in
       sample_some m f sample.0
       (samples_are m f ∙ cond-false (is_replaced m) (get text_cmp removal.samples f) (sample_of samples m f) e ∙ sample.1)
-      (spared_held sample.0
-      (ap is_some sample.2,
-      ⊎_elim
-      (λ (is : is_deleted deletion sample.0 ≡ true). absurd (apart (sym placed.0 ∙ deleted_head sample.0 is)))
-      (λ (is : is_deleted deletion sample.0 ≡ false). is)
-      (cases_Bool (is_deleted deletion sample.0)))))
+      (spared_held sample.0 (
+        ap is_some sample.2,
+        ⊎_elim
+            (λ (is : is_deleted deletion sample.0 ≡ true). absurd (apart (sym placed.0 ∙ deleted_head sample.0 is)))
+            (λ (is : is_deleted deletion sample.0 ≡ false). is)
+            (cases_Bool (is_deleted deletion sample.0)),
+      )))
       (cases_Bool (is_replaced m))
 
   -- what the fields stand for are the points that the deletion leaves

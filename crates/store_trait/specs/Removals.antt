@@ -1,6 +1,6 @@
 -- What does a deletion take away of a store in memory, and which samples are left?
 use Rattle.std.specs.Prelude.{◌≡◌, ℕ, ℤ, int_le, Bool, false, not, ◌&&◌, is_some, IsTrue, IsSome, List, [], ◌∷◌, Option, Some, None, if◌then◌else◌}
-use Rattle.std.specs.BTreeMap.{BTreeMap, get, is_at, IsOrdered}
+use Rattle.std.specs.BTreeMap.{get, is_at, IsOrdered}
 use Rattle.std.specs.Option.{option_or, option_map}
 use Rattle.tsdb_types.specs.Names.{IsName}
 use Rattle.tsdb_types.specs.Series.{is_series_of, measurement_text}

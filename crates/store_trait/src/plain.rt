@@ -200,7 +200,8 @@ impl Store for PlainStore {
     }
 
     fn delete(&mut self, deletion: &Deletion) -> Result<u64, DeleteFault> {
-        if self.last() >= LAST_NUMBER {
+        let last = self.last();
+        if last >= LAST_NUMBER {
             return Err(DeleteFault::HistoryFull);
         }
         let number = self.remove(deletion)?;

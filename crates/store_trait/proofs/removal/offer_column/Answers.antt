@@ -1,5 +1,5 @@
 -- The field has a sample, or takes the first cell that the column keeps.
-use Rattle.std.proofs.Common.{◌≡◌, ◌∙◌, ap, cond, sym, refl, List, ℕ, ℤ, Option, Some, None, option_map}
+use Rattle.std.proofs.Common.{◌∙◌, ap, cond, sym, ℤ, Option, None, option_map}
 use Rattle.std.specs.BTreeMap.{get, is_at}
 use Rattle.std.specs.Option.{option_or}
 use Rattle.tsdb_types.specs.declared.point.Cell.{Cell}

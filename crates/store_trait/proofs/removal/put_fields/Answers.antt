@@ -1,5 +1,5 @@
 -- The measurement has samples, which give place, or none.
-use Rattle.std.proofs.Common.{◌≡◌, ◌∙◌, ap, cond, List, ℕ, Bool, true, false, Option, is_some, sym, refl, rules, ◌&&◌}
+use Rattle.std.proofs.Common.{◌≡◌, ◌∙◌, ap, cond, Bool, true, false, Option, is_some, sym, refl, rules, ◌&&◌}
 use Rattle.std.specs.BTreeMap.{get, is_at}
 use Rattle.std.proofs.lemmas.Map.Lookups.{exact_bytes}
 use Rattle.tsdb_types.specs.declared.point.Cell.{Cell}

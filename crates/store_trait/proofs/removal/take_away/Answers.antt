@@ -1,5 +1,5 @@
 -- The slots that the deletion meets are gone in each series.
-use Rattle.std.proofs.Common.{◌≡◌, ◌∙◌, ap, sym, rules, of_calls, ℕ, ℤ, Bool, true, false, ◌&&◌, cond, Option, None, List}
+use Rattle.std.proofs.Common.{◌≡◌, ◌∙◌, sym, rules, of_calls, ℕ, false, ◌&&◌, cond, None, List}
 use Rattle.std.proofs.lemmas.Map.Lookups.{exact_bytes}
 use Rattle.store_trait.specs.Removals.{is_met, is_within}
 use Rattle.store_trait.specs.Slots.{Fields, slot_in}

@@ -1,9 +1,7 @@
 -- The rows between the times are gone in each column.
-use Rattle.std.proofs.Common.{◌≡◌, ◌∙◌, ap, sym, rules, of_calls, ℕ, ℤ, Bool, true, false, not, cond, Option, Some, None, refl, List, option_and_then}
-use Rattle.std.specs.BTreeMap.{get}
+use Rattle.std.proofs.Common.{◌≡◌, ◌∙◌, ap, sym, rules, of_calls, ℕ, Bool, true, false, not, cond, Option, None, refl, List, option_and_then}
 use Rattle.std.proofs.lemmas.Bool.{false≢true}
 use Rattle.std.proofs.lemmas.Map.Lookups.{exact_bytes}
-use Rattle.tsdb_types.specs.declared.value.Value.{Value}
 use Rattle.store_trait.specs.Removals.{is_within}
 use Rattle.store_trait.specs.Slots.{Rows, slot_of, text_cmp}
 use Rattle.store_trait.proofs.MapLemmas.{nothing_in}

@@ -1,6 +1,5 @@
 -- The rows between the times are gone.
-use Rattle.std.proofs.Common.{◌≡◌, ◌∙◌, ap, sym, subst, rules, of_calls, ℤ, Bool, true, false, not, cond, Option, Some, None, refl, List, [], option_and_then}
-use Rattle.std.specs.BTreeMap.{get}
+use Rattle.std.proofs.Common.{◌≡◌, ◌∙◌, ap, sym, rules, of_calls, ℤ, Bool, true, false, not, cond, Option, Some, None, refl}
 use Rattle.std.specs.Ordering.{int_cmp}
 use Rattle.std.proofs.lemmas.Bool.{false≢true}
 use Rattle.std.proofs.lemmas.Map.Lookups.{exact_signed}

@@ -1,9 +1,8 @@
 -- A batch is kept whole, or nothing of it.
-use Rattle.std.proofs.Common.{◌≡◌, ◌∙◌, ap, sym, subst, ◌∷◌, ◌++◌, [], List}
+use Rattle.std.proofs.Common.{◌∙◌, ap, sym, subst, ◌∷◌, ◌++◌, [], List}
 use Rattle.point_model.specs.Acceptance.{conflict}
 use Rattle.point_model.specs.Histories.{after, with_points}
-use Rattle.point_model.specs.Points.{Points, no_points}
-use Rattle.point_model.specs.declared.entry.Entry.{Entry}
+use Rattle.point_model.specs.Points.{no_points}
 use Rattle.point_model.specs.declared.entry.Entry.TheVariants.{Write}
 use Rattle.store_trait.specs.declared.note.EntryNote.{EntryNote}
 use Rattle.store_trait.specs.declared.note.EntryNote.TheVariants.{Written}

@@ -1,5 +1,5 @@
 -- A deletion is carried out whole, or nothing of it.
-use Rattle.std.proofs.Common.{◌≡◌, ◌∙◌, ap, sym, subst, ◌∷◌, ◌++◌, [], List}
+use Rattle.std.proofs.Common.{◌∙◌, ap, sym, subst, ◌∷◌, ◌++◌, [], List}
 use Rattle.point_model.specs.Deletions.{without}
 use Rattle.point_model.specs.Histories.{after}
 use Rattle.point_model.specs.Points.{no_points}
@@ -9,14 +9,10 @@ use Rattle.store_trait.specs.declared.note.EntryNote.{EntryNote}
 use Rattle.store_trait.specs.declared.note.EntryNote.TheVariants.{Deleted}
 use Rattle.store_trait.specs.Notes.{entries_of}
 use Rattle.store_trait.specs.Told.{Told}
-use Rattle.store_trait.specs.Plain.{Fits, Holds}
+use Rattle.store_trait.specs.Plain.{Fits}
 use Rattle.store_trait.proofs.AcceptLemmas.{holds_more, accepts_more, below_last}
 use Rattle.store_trait.proofs.RemovalLemmas.{removed}
 use Rattle.store_trait.proofs.plain.PlainStore.remove.Goals as goal
-
-pub invariant_of-self-in_err-reserve : goal.invariant_of-self-in_err-reserve
-invariant_of-self-in_err-reserve c =
-    subst (λ (ns : List EntryNote). Holds c.self.inside.client ns c.self.inside.number c.self.inside.slots c.self.inside.samples) (sym c.reserve.ensures.items) c.self.invariant
 
 pub invariant_of-self-2 : goal.invariant_of-self-2
 invariant_of-self-2 c =
@@ -27,7 +23,7 @@ invariant_of-self-2 c =
     (below_last c.self.inside.client c.self.inside.number c.self.inside.views c.self.inside.notes.items c.args.self.now c.self.view_is c.self.invariant.counted c.requires)
     (subst (λ (deletion : Deletion). Fits c.take_away.new.slots c.put_samples.new.samples (without stored deletion)) (sym c.of.ensures)
     (removed c.self.inside.slots c.take_away.new.slots c.self.inside.samples c.put_samples.new.samples stored c.args.deletion.now _
-    c.self.invariant.fits c.in_ok-removal_of.ensures c.take_away.ensures c.put_samples.ensures))
+    c.self.invariant.fits c.in_ok-removal.ensures c.take_away.ensures c.put_samples.ensures))
 
 pub returns-clause-ok : goal.returns-clause-ok
 returns-clause-ok c =
