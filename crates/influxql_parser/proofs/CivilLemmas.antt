@@ -115,8 +115,7 @@ day-known year month day y m d in_month in_day years months days =
     let m_is : month ≡ m = ap (λ (z : ℤ). unsigned_abs z) months in
     let d_is : day ≡ d = ap (λ (z : ℤ). unsigned_abs z) days in
     let in_year : IsInRange 1 (days_in_month (pos y) month) day = subst (λ (z : ℤ). IsInRange 1 (days_in_month z month) day) years in_day in
-    let in_m : IsInRange 1 (days_in_month (pos y) m) day = subst (λ (k : ℕ). IsInRange 1 (days_in_month (pos y) k) day) m_is in_year in
-    (
+    let in_m : IsInRange 1 (days_in_month (pos y) m) day = subst (λ (k : ℕ). IsInRange 1 (days_in_month (pos y) k) day) m_is in_year in (
       civil-date y m d (subst (λ (k : ℕ). IsInRange 1 12 k) m_is in_month) (subst (λ (k : ℕ). IsInRange 1 (days_in_month (pos y) m) k) d_is in_m),
       ap (λ (z : ℤ). days_from_civil z month day) years ∙ ap (λ (k : ℕ). days_from_civil (pos y) k day) m_is ∙ ap (λ (k : ℕ). days_from_civil (pos y) m k) d_is,
     )

@@ -82,8 +82,7 @@ asked-where ps told within found facts_are allowed nests nested room = by (parse
         let same : either_pieces c ≡ ps = parse-written ps c at in
         let asks_is : told.asked ≡ asked_of c = some-is told.asked (asked_of c) (found ∙ asked-by ps ∙ ap (λ (o : Option Either). asks o) at) in
         let are = facts-are ps in
-        let tests : tests_in ps ≡ tests_in (either_pieces c) = ap (λ (t : List Piece). tests_in t) (sym same) in
-        (
+        let tests : tests_in ps ≡ tests_in (either_pieces c) = ap (λ (t : List Piece). tests_in t) (sym same) in (
           c,
           record {
             same = same;
