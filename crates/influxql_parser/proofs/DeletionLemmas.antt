@@ -8,6 +8,9 @@ use Rattle.influxql_parser.specs.declared.piece.Piece.{Piece}
 use Rattle.influxql_parser.specs.declared.statement.Parts.{Parts}
 use Rattle.influxql_parser.specs.declared.statement.Where.{Where}
 use Rattle.influxql_parser.specs.declared.token.Symbol.{Symbol}
+use Rattle.query_model.specs.declared.show.Show.{Show}
+use Rattle.query_model.specs.declared.show.Show.TheVariants as show
+use Rattle.influxql_parser.specs.GrammarShows.{IsShow, IsShowStatement}
 use Rattle.influxql_parser.specs.Numbers.{front_passing, behind_passing, part_at}
 use Rattle.influxql_parser.specs.Tokens.{Token, AreTokens, Word, Quoted, Text, Number, Duration, Sign, begins_word, in_quotes, is_blank, is_of_word, number_at, symbol_at, token_at}
 use Rattle.influxql_parser.specs.Deletions.{HasNoReading, ReadsAs, begins_deletion, first_word, has_time_in_or, tests_of}
@@ -18,7 +21,7 @@ use Rattle.influxql_parser.specs.GrammarWords.{behind_keyword, behind_keywords, 
 use Rattle.influxql_parser.specs.Reads.{HasNoCondition, IsNoneOf, IsOfPieces, IsReadFrom, IsReadMaybe, IsReadOf, IsReadWhere}
 use Rattle.influxql_parser.proofs.ConditionLemmas.{one-condition}
 use Rattle.influxql_parser.proofs.PieceLemmas.{same-pieces}
-use Rattle.influxql_parser.proofs.ShowLemmas.{agree, behind-step, keywords-agree, none≢some, same-some}
+use Rattle.influxql_parser.proofs.ShowLemmas.{agree, begins, behind-step, keywords_of, keywords-agree, none≢some, same-some}
 use Rattle.influxql_parser.proofs.TokenLemmas.{same-tokens}
 
 -- tokens have one condition
@@ -337,3 +340,43 @@ text-none text now tokens cut none read is =
 
 pub text-uncut : (text : List ℕ) (now : ℤ) → ((tokens : List Token) → AreTokens tokens text → ⊥) → HasNoReading (ReadsAs text now)
 text-uncut text now none read is = none is.tokens is.cut
+
+-- a SHOW begins with another word than a deletion
+show-first : (what : Show) → agree (keywords_of what) (delete_word ∷ []) ≡ false
+show-first show.Measurements = refl
+show-first (show.Series a) = refl
+show-first (show.TagKeys a) = refl
+show-first (show.TagValues a k) = refl
+show-first (show.FieldKeys a) = refl
+show-first show.Files = refl
+
+show-not-drop : (what : Show) → agree (keywords_of what) (drop_word ∷ []) ≡ false
+show-not-drop show.Measurements = refl
+show-not-drop (show.Series a) = refl
+show-not-drop (show.TagKeys a) = refl
+show-not-drop (show.TagValues a k) = refl
+show-not-drop (show.FieldKeys a) = refl
+show-not-drop show.Files = refl
+
+-- the first of some keywords stands first
+first-stands : (k : List ℕ) (ks : List (List ℕ)) (tokens rest : List Token) → behind_keywords (k ∷ ks) tokens ≡ Some rest →
+    (others : List Token) × (behind_keywords (k ∷ []) tokens ≡ Some others)
+first-stands k ks [] rest at = absurd (none≢some rest at)
+first-stands k ks (t ∷ ts) rest at = (ts, ap (λ (b : Bool). option_and_then (λ (us : List Token). Some us) (cond b (Some ts) None)) (behind-step k ks t ts rest at).0)
+
+no-both : (what : Show) (k : List ℕ) (ks : List (List ℕ)) (tokens rest : List Token) → agree (keywords_of what) (k ∷ []) ≡ false → IsShowStatement tokens what →
+    behind_keywords (k ∷ ks) tokens ≡ Some rest → ⊥
+no-both what k ks tokens rest differ is at =
+    let begun = begins tokens what is in
+    let first = first-stands k ks tokens rest at in
+    apart (keywords_of what) (k ∷ []) tokens begun.0 first.0 begun.1 first.1 differ
+
+no-show-statement : (now : ℤ) (tokens : List Token) (what : Show) (read : DeletionText) → IsShowStatement tokens what → IsDeletionStatement now tokens read → ⊥
+no-show-statement now tokens what read is (Delete a) = no-both what delete_word (from_word ∷ []) tokens a.behind (show-first what) is a.keywords
+no-show-statement now tokens what read is (DropSeries a) = no-both what drop_word (series_word ∷ from_word ∷ []) tokens a.behind (show-not-drop what) is a.keywords
+no-show-statement now tokens what read is (DropMeasurement a) = no-both what drop_word (measurement_word ∷ []) tokens (a.named ∷ []) (show-not-drop what) is a.keywords
+
+pub no-show : (text : List ℕ) (now : ℤ) (what : Show) (read : DeletionText) → IsShow text what → ReadsAs text now read → ⊥
+no-show text now what read (tokens, cut, is) reads =
+    no-show-statement now (without_semicolon tokens) what read is
+    (subst (λ (ts : List Token). IsDeletionStatement now (without_semicolon ts) read) (same-tokens text reads.tokens tokens reads.cut cut) reads.statement)

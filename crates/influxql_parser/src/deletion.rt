@@ -1,6 +1,6 @@
 ghost use Rattle.std.specs.Prelude.{◌≡◌, IfOk, IfErr, IfSome, IfNone};
 ghost use Rattle.point_model.specs.Deletions.{IsLoggable};
-ghost use Rattle.influxql_parser.specs.Deletions.{BeginsDeletion, DeletionsBegin, HasNoReading, IsDeletion, IsRefusedDeletion, NoSelectBegins, OneDeletion, ReadsAs};
+ghost use Rattle.influxql_parser.specs.Deletions.{BeginsDeletion, DeletionsBegin, HasNoReading, IsDeletion, IsRefusedDeletion, NoSelectBegins, NoShowIsDeletion, OneDeletion, ReadsAs};
 ghost use Rattle.influxql_parser.specs.Deletions as spec;
 ghost use Rattle.influxql_parser.specs.Reads.{IsReadFrom};
 
@@ -73,4 +73,9 @@ pub fn deletions_begin()
 /// What begins with `SELECT` and a space begins as no deletion.
 pub fn no_select_begins()
     ensures { NoSelectBegins }
+{}
+
+/// No text is a SHOW and a deletion.
+pub fn no_show_is_deletion()
+    ensures { NoShowIsDeletion }
 {}

@@ -18,6 +18,8 @@ mod statement;
 mod token;
 mod word;
 
-pub use deletion::{deletions_begin, no_select_begins, one_deletion, read_deletion};
+pub use deletion::{
+    deletions_begin, no_select_begins, no_show_is_deletion, one_deletion, read_deletion,
+};
 pub use fault::ReadFault;
 pub use show::{one_show, read_show};
