@@ -2,3 +2,13 @@ mod NumberLemmas
 mod WordLemmas
 mod TokenLemmas
 mod ShowLemmas
+mod ConditionLemmas
+mod ChainLemmas
+mod PieceLemmas
+mod EndLemmas
+mod RoomLemmas
+mod StatementLemmas
+mod DeletionLemmas
+mod CivilLemmas
+mod MomentLemmas
+mod FactLemmas
