@@ -2,6 +2,7 @@ pub mod Calls
 pub mod Gathered
 pub mod Laws
 pub mod Lists
+pub mod Notes
 pub mod Plain
 pub mod Slots
 pub mod Tags
