@@ -1,6 +1,7 @@
 -- What does the text of a deletion mean, and for what is it refused?
-use Rattle.std.specs.Prelude.{◌≡◌, ℕ, ℤ, Bool, true, false, Option, Some, None, List, []}
+use Rattle.std.specs.Prelude.{◌≡◌, ℕ, ℤ, Bool, true, false, ◌||◌, Option, Some, None, List, [], ◌++◌, codes}
 use Rattle.std.specs.List.{list_any}
+use Rattle.std.specs.Str.{str_eq_ignore_ascii_case}
 use Rattle.point_model.specs.Conditions as tags
 use Rattle.point_model.specs.declared.deletion.Deletion.{Deletion}
 use Rattle.query_model.specs.declared.show.Show.{Show}
@@ -9,8 +10,9 @@ use Rattle.influxql_parser.specs.declared.fault.ReadFault.TheVariants.{Syntax, T
 use Rattle.influxql_parser.specs.declared.piece.Test.{Test}
 use Rattle.influxql_parser.specs.declared.piece.Test.TheVariants as test
 use Rattle.influxql_parser.specs.Bounds.{lower_bound, upper_bound, times_between}
-use Rattle.influxql_parser.specs.Tokens.{Token, AreTokens}
-use Rattle.influxql_parser.specs.GrammarWords.{without_semicolon}
+use Rattle.influxql_parser.specs.Numbers.{front_passing, behind_passing}
+use Rattle.influxql_parser.specs.Tokens.{Token, AreTokens, is_blank, is_of_word}
+use Rattle.influxql_parser.specs.GrammarWords.{without_semicolon, delete_word, drop_word}
 use Rattle.influxql_parser.specs.GrammarConditions.{Either, either_pieces, either_has_time_in_or, tests_in}
 use Rattle.influxql_parser.specs.GrammarDeletions.{DeletionText, IsDeletionStatement}
 use Rattle.influxql_parser.specs.GrammarShows.{IsShow}
@@ -84,9 +86,35 @@ IsDeletion text now deletion = MeansDeletion (ReadsAs text now) deletion
 abbrev pub IsNoDeletion : List ℕ → ℤ → Type 0
 IsNoDeletion text now = HasNoReading (ReadsAs text now)
 
--- the text is a DELETE or a DROP that is refused for this
+-- The text is a DELETE or a DROP that is refused for this.
 abbrev pub IsRefused : List ℕ → ℤ → ReadFault → Type 0
 IsRefused text now fault = IsRefusedFor (ReadsAs text now) fault
+
+-- the word behind the blanks at the front of a text; empty where none stands there
+abbrev pub first_word : List ℕ → List ℕ
+first_word text = front_passing is_of_word (behind_passing is_blank text)
+
+-- the first word is DELETE or DROP, in small letters, capitals or both
+abbrev pub begins_deletion : List ℕ → Bool
+begins_deletion text = str_eq_ignore_ascii_case (first_word text) delete_word || str_eq_ignore_ascii_case (first_word text) drop_word
+
+abbrev pub BeginsDeletion : List ℕ → Type 0
+BeginsDeletion text = begins_deletion text ≡ true
+
+-- The text begins as a deletion, and is refused for its one cause: first of all that it is none.
+abbrev pub IsRefusedDeletion : List ℕ → ℤ → ReadFault → Type 0
+IsRefusedDeletion text now Syntax = BeginsDeletion text × IsNoDeletion text now
+IsRefusedDeletion text now TimeInOr = IsRefused text now TimeInOr
+IsRefusedDeletion text now NumberRange = IsRefused text now NumberRange
+IsRefusedDeletion text now Memory = Unit {0}
+
+-- what reads as a deletion begins as one
+abbrev pub DeletionsBegin : Type 0
+DeletionsBegin = (text : List ℕ) (now : ℤ) (read : DeletionText) → ReadsAs text now read → BeginsDeletion text
+
+-- what begins with `SELECT` and a space begins as no deletion
+abbrev pub NoSelectBegins : Type 0
+NoSelectBegins = (behind : List ℕ) → BeginsDeletion (codes "SELECT " ++ behind) → ⊥
 
 -- a text is one deletion at most
 abbrev pub OneDeletion : Type 0

@@ -1,6 +1,7 @@
 //! InfluxQL: the text of a SHOW is read to it, and refused exactly where it is none. No other statement is read yet.
 #![tactic(auto)]
 
+mod deletion;
 mod fault;
 mod keyword;
 mod lexer;
@@ -10,5 +11,6 @@ mod show;
 mod token;
 mod word;
 
+pub use deletion::{deletions_begin, no_select_begins, one_deletion, read_deletion};
 pub use fault::ReadFault;
 pub use show::{one_show, read_show};
