@@ -6,15 +6,18 @@ use Rattle.std.specs.Prelude.{MatchBool}
 use Rattle.std.specs.declared.alloc.AllocError.{AllocError}
 use Rattle.std.proofs.lemmas.Bool.Decides.{nat_tests, eqb_tells}
 use Rattle.std.proofs.lemmas.Str.{is_utf8-from_IsUtf8, IsUtf8-from_is_utf8}
+use Rattle.point_model.specs.declared.deletion.Deletion.{Deletion}
+use Rattle.influxql_parser.specs.declared.fault.ReadFault.TheVariants as read_fault
+use Rattle.influxql_parser.specs.Deletions.{BeginsDeletion, DeletionsBegin, IsDeletion, IsRefusedDeletion}
 use Rattle.session_model.specs.declared.statement.Refusal.{Refusal}
-use Rattle.session_model.specs.declared.statement.Refusal.TheVariants.{LineTooLong, NotText}
+use Rattle.session_model.specs.declared.statement.Refusal.TheVariants.{LineTooLong, NotText, Syntax, TimeInOr, NumberRange}
 use Rattle.session_model.specs.declared.statement.Statement.{Statement}
 use Rattle.session_model.specs.declared.statement.Statement.TheVariants as statement
 use Rattle.session_model.specs.Readable.{Lacks}
 use Rattle.session_model.specs.Lines.{Request}
 use Rattle.session_model.specs.Lines.Request.{Line}
 use Rattle.session_model.specs.Words.{IsWord}
-use Rattle.session_model.specs.Requests.{Means, Says, LineSays, TextSays, SaysSelect, first_of, refusal_of}
+use Rattle.session_model.specs.Requests.{Means, Says, LineSays, TextSays, SaysSelect, SelectSays, WordsSay, first_of, refusal_of}
 use Rattle.session_model.proofs.TextLemmas.{cut_at, and_parts}
 use Rattle.session_loop.specs.Cuts.{CutsAt}
 use Rattle.session_loop.specs.LineAsItComes.{StandsFor}
@@ -70,6 +73,25 @@ module _ (text : List ℕ) where
         of_field = of_field;
         of_measurement = of_measurement;
       }
+
+-- Whether the first word of a line is DELETE or DROP.
+
+module _ (begin : DeletionsBegin) (line : List ℕ) (moment : ℤ) where
+  pub deletion_said : (deletion : Deletion) → IsDeletion line moment deletion → WordsSay line moment (statement.Delete deletion)
+  deletion_said deletion is = inl (begin line moment is.read is.reads, is)
+
+  pub syntax_said : IsRefusedDeletion line moment read_fault.Syntax → WordsSay line moment (statement.Refused Syntax)
+  syntax_said is = inl (is.0, is.1)
+
+  pub time_in_or_said : IsRefusedDeletion line moment read_fault.TimeInOr → WordsSay line moment (statement.Refused TimeInOr)
+  time_in_or_said is = inl (begin line moment is.0 is.1, is)
+
+  pub range_said : IsRefusedDeletion line moment read_fault.NumberRange → WordsSay line moment (statement.Refused NumberRange)
+  range_said is = inl (begin line moment is.0 is.1, is)
+
+pub others_said : (line : List ℕ) (moment : ℤ) (read : Result Statement AllocError) → ¬ (BeginsDeletion line) → IfOk read (SelectSays line) → IfOk read (WordsSay line moment)
+others_said line moment (Ok asks) none says = inr (none, says)
+others_said line moment (Err error) none says = tt
 
 -- Whether a text is UTF-8.
 

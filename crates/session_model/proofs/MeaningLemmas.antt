@@ -58,10 +58,12 @@ said_of read = if has_time_in_or read.condition then Refused TimeInOr
     else if list_any is_out_of_range (tests_of read.condition) then Refused NumberRange else Delete (deletion_of read)
 
 said_late : (read : DeletionText) → has_time_in_or read.condition ≡ true → said_of read ≡ Refused TimeInOr
+unfolding said_of
 said_late read late = ap (λ (t : Bool). if t then Refused TimeInOr else if list_any is_out_of_range (tests_of read.condition) then Refused NumberRange else Delete (deletion_of read)) late
 
 said_apart : (read : DeletionText) (far : Bool) → has_time_in_or read.condition ≡ false → list_any is_out_of_range (tests_of read.condition) ≡ far
     → said_of read ≡ (if far then Refused NumberRange else Delete (deletion_of read))
+unfolding said_of
 said_apart read far apart is =
     ap (λ (t : Bool). if t then Refused TimeInOr else if list_any is_out_of_range (tests_of read.condition) then Refused NumberRange else Delete (deletion_of read)) apart
     ∙ ap (λ (t : Bool). if t then Refused NumberRange else Delete (deletion_of read)) is
