@@ -388,7 +388,7 @@ entry_given tells Cause start before made client answer serves =
 
 -- An entry was made of the request.
 module _ (old new : Stored) (request : Request) (moment : ℤ) (made : Entry) (number : ℕ) (small : number < 2 ^ 64) (accepts : Accepts made number old.told new.told) (kept : Keeps old.told new.told) (still : new.health ≡ old.health) where
-  behind : State
+  abbrev behind : State
   behind = state_after old.told.start accepts.before
 
   is_next : number ≡ behind.number + 1
