@@ -2,3 +2,11 @@ mod NumberLemmas
 mod WordLemmas
 mod TokenLemmas
 mod ShowLemmas
+mod ConditionLemmas
+mod ChainLemmas
+mod PieceLemmas
+mod EndLemmas
+mod RoomLemmas
+mod StatementLemmas
+mod DeletionLemmas
+mod CivilLemmas

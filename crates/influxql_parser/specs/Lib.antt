@@ -11,3 +11,7 @@ pub mod GrammarDeletions
 pub mod DeletionTags
 pub mod Bounds
 pub mod Deletions
+pub mod Chains
+pub mod Facts
+pub mod PieceParts
+pub mod Reads

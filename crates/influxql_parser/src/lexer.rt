@@ -28,7 +28,7 @@ pub fn tokens_of(alloc: Global, text: &[u8]) -> Result<Option<Vec<Token<'_>>>, A
 }
 
 // What stands behind the blanks at the front, if anything does.
-fn past_blanks(text: &[u8]) -> Option<&[u8]>
+pub fn past_blanks(text: &[u8]) -> Option<&[u8]>
     ensures found { IfSome result (λ ahead. (ahead.now ≡ behind_passing is_blank text.now) × (ahead.now ≢ [])) }
     ensures none { IfNone result (behind_passing is_blank text.now ≡ []) }
     ensures shorter { IfSome result (λ ahead. length ahead.now ≤ length text.now) }
@@ -83,7 +83,7 @@ fn is_of_word(byte: u8) -> bool
 }
 
 // The word at the front, and the rest.
-fn word_and_rest(text: &[u8]) -> (&[u8], &[u8])
+pub fn word_and_rest(text: &[u8]) -> (&[u8], &[u8])
     ensures front { result.0.now ≡ front_passing is_of_word text.now }
     ensures behind { result.1.now ≡ behind_passing is_of_word text.now }
 {

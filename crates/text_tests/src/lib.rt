@@ -4,6 +4,8 @@
 #![tactic(auto)]
 
 #[cfg(test)]
+mod deletions;
+#[cfg(test)]
 mod lines;
 #[cfg(test)]
 mod names_and_keys;
