@@ -205,12 +205,12 @@ passed-none (p ∷ ps) = passed-none ps
 
 pub passed-written : (ps : List Piece) (p q : Place) → passed (Some p) ps ≡ Some q → written q ≡ written p ++ ps
 passed-written [] p q is = ap (λ (x : Place). written x) (sym (some-is p q is)) ∙ sym (append-nil (written p))
-passed-written (one ∷ ps) p q is = by (advance p one) refl is
+passed-written (one ∷ ps) p q is = by (advance p one) refl is (λ next. passed-written ps next q)
   where
-    by : (o : Option Place) → advance p one ≡ o → passed o ps ≡ Some q → written q ≡ written p ++ one ∷ ps
-    by None at is = absurd (none≢some q (sym (passed-none ps) ∙ is))
-    by (Some next) at is =
-        passed-written ps next q is ∙ ap (λ (t : List Piece). t ++ ps) (advance-written p one next at) ∙ append_assoc (written p) (one ∷ []) ps
+    by : (o : Option Place) → advance p one ≡ o → passed o ps ≡ Some q → ((next : Place) → passed (Some next) ps ≡ Some q → written q ≡ written next ++ ps) → written q ≡ written p ++ one ∷ ps
+    by None at is more = absurd (none≢some q (sym (passed-none ps) ∙ is))
+    by (Some next) at is more =
+        more next is ∙ ap (λ (t : List Piece). t ++ ps) (advance-written p one next at) ∙ append_assoc (written p) (one ∷ []) ps
 
 finish-written : (p : Place) (c : Either) → finish p ≡ Some c → either_pieces c ≡ written p
 finish-written (Here [] e b None) c is = absurd (none≢some c is)

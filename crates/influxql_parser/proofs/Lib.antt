@@ -10,3 +10,5 @@ mod RoomLemmas
 mod StatementLemmas
 mod DeletionLemmas
 mod CivilLemmas
+mod MomentLemmas
+mod FactLemmas

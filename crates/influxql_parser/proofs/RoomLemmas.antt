@@ -31,7 +31,7 @@ record IsSized (ps : List Piece) (asked : tags.Condition) : Type 0 where
   pub texts : AreShort ps → All IsShortText (texts_of asked)
 
 size-append : (ps qs : List Piece) → size_of_all (ps ++ qs) ≡ size_of_all ps + size_of_all qs
-size-append [] qs = refl
+size-append [] qs = omega arith
 size-append (p ∷ ps) qs = omega (arith, size-append ps qs)
 
 short-append : (ps qs : List Piece) → AreShort (ps ++ qs) → AreShort ps × AreShort qs

@@ -56,7 +56,7 @@ keywords-agree (k ∷ ks) (l ∷ ls) (token ∷ tokens) rest others first second
     let b = behind-step l ls token tokens others second in
     ap (λ (t : Bool). t && agree ks ls) (one-keyword k l token a.0 b.0) ∙ keywords-agree ks ls tokens rest others a.1 b.1
 
-same-some : {A : Type 0} (o : Option A) (x y : A) → o ≡ Some x → o ≡ Some y → x ≡ y
+pub same-some : {A : Type 0} (o : Option A) (x y : A) → o ≡ Some x → o ≡ Some y → x ≡ y
 same-some o x y first second = let same : Some x ≡ Some y = sym first ∙ second in cc
 
 abbrev tail_of : List Token → List Token

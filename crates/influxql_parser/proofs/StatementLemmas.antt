@@ -1,6 +1,6 @@
 use Rattle.std.proofs.Common.{◌≡◌, ℕ, ℤ, ◌≤◌, ◌+◌, Bool, true, false, ◌&&◌, ◌||◌, Option, Some, None, List, [], ◌∷◌, length, arith, refl, sym, ap, subst, ◌∙◌}
 use Rattle.std.proofs.lemmas.Bool.{false≢true}
-use Rattle.std.specs.Prelude.{option_and_then, IfSome, IfNone}
+use Rattle.std.specs.Prelude.{option_and_then, IfSome, IfNone, not}
 use Rattle.std.specs.List.{list_any, list_all}
 use Rattle.point_model.specs.Conditions as tags
 use Rattle.point_model.specs.Deletions.{IsLoggable}
@@ -25,6 +25,14 @@ use Rattle.influxql_parser.proofs.ShowLemmas.{none≢some, same-some}
 use Rattle.influxql_parser.proofs.ConditionLemmas.{parse, parse-pieces, parse-written}
 use Rattle.influxql_parser.proofs.ChainLemmas.{asked-by, asked_of, asks}
 use Rattle.influxql_parser.proofs.RoomLemmas.{short-enough, none-short}
+
+pub not-true : (b : Bool) → not b ≡ true → b ≡ false
+not-true true is = absurd (false≢true is)
+not-true false is = refl
+
+pub not-false : (b : Bool) → not b ≡ false → b ≡ true
+not-false true is = refl
+not-false false is = absurd (false≢true (sym is))
 
 -- what pieces tell is told by their comparisons
 pub record FactsAre (tests : List Test) (facts : Facts) : Type 0 where
@@ -74,8 +82,7 @@ asked-where ps told within found facts_are allowed nests nested room = by (parse
         let same : either_pieces c ≡ ps = parse-written ps c at in
         let asks_is : told.asked ≡ asked_of c = some-is told.asked (asked_of c) (found ∙ asked-by ps ∙ ap (λ (o : Option Either). asks o) at) in
         let are = facts-are ps in
-        let tests : tests_in ps ≡ tests_in (either_pieces c) = ap (λ (t : List Piece). tests_in t) (sym same) in
-        (
+        let tests : tests_in ps ≡ tests_in (either_pieces c) = ap (λ (t : List Piece). tests_in t) (sym same) in (
           c,
           record {
             same = same;

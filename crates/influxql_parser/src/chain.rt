@@ -82,11 +82,7 @@ fn next(
     }
 }
 
-fn with_piece(
-    alloc: Global,
-    reading: Reading,
-    piece: Piece,
-) -> Result<Option<Reading>, AllocError>
+fn with_piece(alloc: Global, reading: Reading, piece: Piece) -> Result<Option<Reading>, AllocError>
     ensures { IfOk result (λ after. stacks after ≡ spec.with_piece (stack_of reading) piece) }
 {
     match piece {

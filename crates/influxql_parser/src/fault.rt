@@ -13,7 +13,7 @@ pub enum ReadFault {
     /// It has one, in which a comparison of time stands under an OR.
     #[error("a comparison of time stands under an OR")]
     TimeInOr,
-    /// It has one with a number, a duration or a moment that 64 bits don't hold.
+    /// It has one with a number, a duration or a moment that 64 bits with a sign don't hold.
     #[error("a number or a moment is out of range")]
     NumberRange,
     #[error("out of memory")]

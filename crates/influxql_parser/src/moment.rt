@@ -157,10 +157,7 @@ fn is_plus(symbol: Option<Symbol>) -> bool
 }
 
 // The sum with all durations at the front, and the rest.
-fn sums_at<'t, 'a>(
-    base: Option<i64>,
-    tokens: &'t [Token<'a>],
-) -> (Option<i64>, &'t [Token<'a>])
+fn sums_at<'t, 'a>(base: Option<i64>, tokens: &'t [Token<'a>]) -> (Option<i64>, &'t [Token<'a>])
     ensures sum { (result.0, result.1.now) ≡ spec.sums_at base tokens.now }
     ensures shorter { length result.1.now ≤ length tokens.now }
 {

@@ -20,6 +20,7 @@ use std::alloc::{AllocError, Global};
 use tsdb_types::{Name, Time};
 
 const FIRST: i128 = -9223372036854775806;
+
 const LAST: i128 = 9223372036854775806;
 
 // A condition, or none: what it asks of tags, what its pieces tell, and whether a log has room for it.

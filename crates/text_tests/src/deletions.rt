@@ -3,6 +3,7 @@ use std::process::Abort;
 use tsdb_types::SeriesKey;
 
 const FIRST: i64 = -9223372036854775806;
+
 const LAST: i64 = 9223372036854775806;
 
 /// A text, the measurement and the times that it deletes at moment 1,000, and which of `m,host=a`, `m,host=b` and `m` meet its condition.
@@ -135,7 +136,11 @@ const OTHERS: [&str; 4] = ["", "SELECT v FROM m", "DELETED FROM m", "\"DELETE\" 
 fn check_row(rt: &(impl Abort + AllocGlobal), row: &Row) {
     let deletion = read_deletion(rt.alloc(), row.text, 1000).expect(rt, "a deletion");
     let deletion = deletion.expect(rt, "a statement");
-    assert!(rt; deletion.measurement.as_str() == row.measurement, "{}", row.text);
+    assert!(rt;
+        deletion.measurement.as_str() == row.measurement,
+        "{}",
+        row.text
+    );
     assert!(rt; deletion.from.get() == row.times.0, "{}", row.text);
     assert!(rt; deletion.to.get() == row.times.1, "{}", row.text);
     for (series, met) in ["m,host=a", "m,host=b", "m"].iter().zip(row.met.iter()) {
