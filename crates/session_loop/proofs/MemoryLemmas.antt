@@ -28,7 +28,7 @@ memory_alone : (tells : Bool) (series : ℕ) (start : State) (before : List Entr
 memory_alone tells series start before answer OutOfMemory steady cause = refl
 memory_alone tells series start before answer DeviceFault steady cause = absurd (steady refl)
 memory_alone tells series start before answer (Damaged file offset) steady cause = absurd (no_limit cause.3)
-memory_alone tells series start before answer (CacheFull held) steady cause = absurd cause.3
+memory_alone tells series start before answer (CacheFull held) steady cause = absurd cause.4
 memory_alone tells series start before answer (SeriesFull held) steady cause = absurd cause.3
 memory_alone tells series start before answer (Accepted number) steady cause = absurd cause
 memory_alone tells series start before answer (Found number tables) steady cause = absurd cause

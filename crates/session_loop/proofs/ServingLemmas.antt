@@ -30,7 +30,7 @@ use Rattle.session_model.specs.Replies.Reply.{Accepted, Reached, NotReached, Not
 use Rattle.session_model.specs.Machine.{Served, Serves as Is_machines, serve_batch, serve_entry}
 use Rattle.session_loop.specs.Steps.{Stored, Step, Serves, ServesRead, CouldTake, answer_to}
 use Rattle.session_loop.specs.Texts.{IsTextOf, reply_to, number_in, reply_to_deletion, number_of_refusal}
-use Rattle.session_loop.proofs.StepLemmas.{step_now, serves_or_memory, memory_step, keeps_still, ages_same, free_points}
+use Rattle.session_loop.proofs.StepLemmas.{step_now, serves_or_memory, memory_step, keeps_still, ages_same, free_points, fits_told}
 
 -- AFTER.
 
@@ -165,7 +165,7 @@ module _ (old new : Stored) (points : List Point) (bytes : List ℕ) (kept : Kee
       let still = quiet (λ same. cc same) in
       serves_or_memory old new (statement.Write points) bytes (CacheFull held) None spelled kept alike (λ long. still) (inl refl) (λ request moment means.
       step_now old new (answer_to request moment (CacheFull held) None) kept alike ages refl readable (λ same. absurd (no_cache_fault held same))
-      (λ other. still) (inl (record { aside = tt; cause = (points, means, could_take new.told points cause.0, cause.2); number = inl refl })))
+      (λ other. still) (inl (record { aside = tt; cause = (points, means, could_take new.told points cause.0, fits_told new.told points cause.1, cause.2); number = inl refl })))
   refused_serves fault.Memory spelled readable cause quiet =
       let still = quiet (λ same. cc same) in
       serves_or_memory old new (statement.Write points) bytes OutOfMemory None spelled kept alike (λ long. still) (inl refl)
@@ -174,7 +174,7 @@ module _ (old new : Stored) (points : List Point) (bytes : List ℕ) (kept : Kee
       serves_or_memory old new (statement.Write points) bytes DeviceFault None spelled kept alike (λ long. absurd long) (inl refl) (λ request moment means.
       step_now old new (answer_to request moment DeviceFault None) kept alike ages refl tt (λ same. cause.0.rose)
       (λ other. absurd (other refl))
-      (inl (record { aside = tt; cause = (statement.Write points, means, could_take new.told points cause.1); number = inl refl })))
+      (inl (record { aside = tt; cause = (statement.Write points, means, (could_take new.told points cause.1, fits_told new.told points cause.2, cause.3)); number = inl refl })))
 
 -- A deletion that was refused.
 

@@ -16,7 +16,7 @@ use Rattle.point_model.specs.declared.entry.Entry.TheVariants.{Write as Write_en
 use Rattle.point_model.specs.Acceptance.{Conflict, conflict}
 use Rattle.store_trait.specs.Told.{Told, Limits, Keeps, IsAlike, IsLater, state_now}
 use Rattle.store_trait.specs.Calls.Entry.{Accepts}
-use Rattle.store_trait.specs.Calls.Write.{PassesCache, PassesSeries}
+use Rattle.store_trait.specs.Calls.Write.{FitsCache, FitsSeries, PassesCache, PassesSeries}
 use Rattle.point_model.specs.declared.deletion.Deletion.{Deletion}
 use Rattle.point_model.specs.Points.{Points}
 use Rattle.session_model.specs.declared.statement.Statement.{Statement}
@@ -29,7 +29,7 @@ use Rattle.session_model.specs.Replies.Reply.{Accepted, Found, Reached, NotReach
 use Rattle.session_model.specs.Machine.{Answer, Served, Serves as Is_machines, IsAside, serve_batch, serve_entry}
 use Rattle.session_model.specs.Explained.{IsGivenAt, TakePlaces}
 use Rattle.session_loop.specs.Sessions.{is_fault, faults_in}
-use Rattle.session_loop.specs.Steps.{Stored, Step, Steps, Serves, CouldTake, CouldFail, ReplyHasCause, HasCause, HasCauseAt, answer_to}
+use Rattle.session_loop.specs.Steps.{Stored, Step, Steps, Serves, CouldTake, FitsHeld, CouldFail, ReplyHasCause, HasCause, HasCauseAt, answer_to}
 use Rattle.session_loop.specs.Texts.{IsTextOf, IsLong}
 
 -- Histories.
@@ -124,24 +124,63 @@ could_take_later : (tells tells' : Bool) (start start' : State) (before : List E
 could_take_later tells tells' start start' before points told began could =
     subst (λ (b : Bool). CouldTake b (state_after start' before) points) (sym told) (subst (λ (s : State). CouldTake tells (state_after s before) points) (sym began) could)
 
-could_fail_later : (tells tells' : Bool) (start start' : State) (before : List Entry) (asks : Statement) → tells' ≡ tells → start' ≡ start
-    → CouldFail tells (state_after start before) asks → CouldFail tells' (state_after start' before) asks
-could_fail_later tells tells' start start' before asks told began could =
-    subst (λ (b : Bool). CouldFail b (state_after start' before) asks) (sym told) (subst (λ (s : State). CouldFail tells (state_after s before) asks) (sym began) could)
+if_by : {X : Type 0} (a b : Option X) (P Q : X → Type 0) → b ≡ a → ((x : X) → P x → Q x) → IfSome a P → IfSome b Q
+if_by None b P Q same weaker h = subst (λ (o : Option _). IfSome o Q) (sym same) tt
+if_by (Some x) b P Q same weaker h = subst (λ (o : Option _). IfSome o Q) (sym same) (weaker x h)
+
+fits_later : (series more : ℕ) (before : List Entry) (points : List Point) → series ≤ more → (limits : Limits) → FitsHeld points series before limits → FitsHeld points more before limits
+fits_later series more before points low limits fits = record {
+  held = fits.held;
+  known = fits.known;
+  new = fits.new;
+  are_known = fits.are_known;
+  are_new = fits.are_new;
+  no_fewer = fits.no_fewer;
+  are_held = (let most = fits.are_held in omega arith);
+  fits = fits.fits;
+}
+
+-- what the store says of a batch whose new series are within its limit
+pub fits_told : (told : Told) (points : List Point) → IfSome told.limits (FitsSeries points told) → IfSome told.limits (FitsHeld points told.series told.history)
+fits_told told points fits = if_by told.limits told.limits (FitsSeries points told) (FitsHeld points told.series told.history) refl (λ limits here. record {
+  held = here.held;
+  known = here.known;
+  new = here.new;
+  are_known = here.are_known;
+  are_new = here.are_new;
+  no_fewer = here.no_fewer;
+  are_held = here.are_held;
+  fits = here.fits;
+}) fits
+
+could_fail_later : (tells tells' : Bool) (limits limits' : Option Limits) (series series' : ℕ) (start start' : State) (before : List Entry) (asks : Statement)
+    → tells' ≡ tells → limits' ≡ limits → series ≤ series' → start' ≡ start → CouldFail tells limits series start before asks → CouldFail tells' limits' series' start' before asks
+could_fail_later tells tells' limits limits' series series' start start' before (statement.Write points) told limited more began could = (
+  could_take_later tells tells' start start' before points told began could.0,
+  if_by limits limits' (FitsHeld points series before) (FitsHeld points series' before) limited (fits_later series series' before points more) could.1,
+  if_by limits limits' (FitsCache points) (FitsCache points) limited (λ l fits. fits) could.2,
+)
+could_fail_later tells tells' limits limits' series series' start start' before (statement.Delete deletion) told limited more began could =
+    subst (λ (s : State). (state_after s before).number < 9223372036854775807) (sym began) could
+could_fail_later tells tells' limits limits' series series' start start' before (statement.Select field measurement) told limited more began could = tt
+could_fail_later tells tells' limits limits' series series' start start' before (statement.After number) told limited more began could = absurd could
+could_fail_later tells tells' limits limits' series series' start start' before (statement.Refused refusal) told limited more began could = absurd could
+could_fail_later tells tells' limits limits' series series' start start' before statement.NotBuilt told limited more began could = absurd could
 
 -- a cause stays one while the limits and the start stay and no series goes
 pub cause_later : (tells tells' : Bool) (limits limits' : Option Limits) (series series' : ℕ) (start start' : State) (before : List Entry) (answer : Answer) (reply : Reply)
     → tells' ≡ tells → limits' ≡ limits → series ≤ series' → start' ≡ start → ReplyHasCause tells limits series start before answer reply
     → ReplyHasCause tells' limits' series' start' before answer reply
 cause_later tells tells' limits limits' series series' start start' before answer OutOfMemory told limited more began cause = tt
-cause_later tells tells' limits limits' series series' start start' before answer DeviceFault told limited more began cause = (cause.0, cause.1, could_fail_later tells tells' start start' before cause.0 told began cause.2)
+cause_later tells tells' limits limits' series series' start start' before answer DeviceFault told limited more began cause = (cause.0, cause.1, could_fail_later tells tells' limits limits' series series' start start' before cause.0 told limited more began cause.2)
 cause_later tells tells' limits limits' series series' start start' before answer (Damaged file offset) told limited more began cause =
     (cause.0, cause.1, cause.2, subst (λ (o : Option Limits). IsSome o) (sym limited) cause.3, told ∙ cause.4)
 cause_later tells tells' limits limits' series series' start start' before answer (CacheFull held) told limited more began cause = (
   cause.0,
   cause.1,
   could_take_later tells tells' start start' before cause.0 told began cause.2,
-  some_by limits limits' (PassesCache cause.0 held before) (PassesCache cause.0 held before) limited (λ l passes. passes) cause.3,
+  if_by limits limits' (FitsHeld cause.0 series before) (FitsHeld cause.0 series' before) limited (fits_later series series' before cause.0 more) cause.3,
+  some_by limits limits' (PassesCache cause.0 held before) (PassesCache cause.0 held before) limited (λ l passes. passes) cause.4,
 )
 cause_later tells tells' limits limits' series series' start start' before answer (SeriesFull held) told limited more began cause = (
   cause.0,
