@@ -41,7 +41,7 @@ use Rattle.engine_clients.proofs.EachLemmas.{ServeEach}
 module _ (whole : Whole) where
   places_in : (client : ℕ) (part : Part) → IsPart whole client part → (least : ℕ) (answers : List Answer)
       → TakePlaces part.new.told.tells (HasCauseAt part.new.told) part.new.told.start part.new.told.history part.new.told.client least answers
-      → TakePlaces whole.tells (HasCause whole.tells whole.limits whole.series) whole.start whole.history client least answers
+      → TakePlaces whole.tells (HasCause whole.tells whole.limits whole.series whole.start) whole.start whole.history client least answers
   places_in client part is least [] places = tt
   places_in client part is least (answer ∷ answers) places = (
     places.0,
@@ -51,7 +51,7 @@ module _ (whole : Whole) where
   )
 
   told_in : (client : ℕ) (part : Part) → (is : IsPart whole client part)
-      → IsTold whole.tells (HasCause whole.tells whole.limits whole.series) whole.start whole.history client part.transcript part.dialogue is.is.opening
+      → IsTold whole.tells (HasCause whole.tells whole.limits whole.series whole.start) whole.start whole.history client part.transcript part.dialogue is.is.opening
   told_in client part is =
       let told = is.is.told in
       record {
@@ -61,7 +61,7 @@ module _ (whole : Whole) where
       }
 
   pub all_told : (client : ℕ) (parts : List Part) → AreParts whole client parts
-      → AreToldFrom whole.tells (HasCause whole.tells whole.limits whole.series) whole.start whole.history client (map (λ part. part.transcript) parts) (map (λ part. part.dialogue) parts)
+      → AreToldFrom whole.tells (HasCause whole.tells whole.limits whole.series whole.start) whole.start whole.history client (map (λ part. part.transcript) parts) (map (λ part. part.dialogue) parts)
   all_told client [] are = tt
   all_told client (part ∷ parts) are = (are.0.is.opening, told_in client part are.0, all_told (client + 1) parts are.1)
 
@@ -247,7 +247,7 @@ module _ {D R W S K C : Type 0} (g : Ghosts D R W) (members : Devices S K C) whe
     -- the numbers that the passes own together are those of the entries, each once: so is each number that was told
     abbrev pub explained : (olds mids : List (Served D S K C)) (own : List ℕ) (it : Composes 0 olds mids) → own ≡ flat_map own_of mids
         → SameItems own (numbers_after (state_of start).number (length entries))
-        → ExplainedBut true (HasCause true (Some (limits_of (state_of start) start.logs.series.keys start)) it.most) (state_of start) (entries_in entries) (map (λ part. part.transcript) it.parts)
+        → ExplainedBut true (HasCause true (Some (limits_of (state_of start) start.logs.series.keys start)) it.most (state_of start)) (state_of start) (entries_in entries) (map (λ part. part.transcript) it.parts)
     explained olds mids own it all same = record {
       dialogues = map (λ part. part.dialogue) it.parts;
       told = all_told (whole_with it.most) 0 it.parts (it.are_parts it.most (omega arith));

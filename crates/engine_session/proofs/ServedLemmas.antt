@@ -47,12 +47,12 @@ pub record BeginsWith (start : State) (limits : Limits) (old : Told) : Type 0 wh
   pub own : old.own ≡ []
 
 module _ (start : State) (limits : Limits) (old new : Stored) (transcript : Transcript) (dialogue : Dialogue) (begins : BeginsWith start limits old.told) (is : IsDialogue old new transcript dialogue) where
-  pub told : IsTold true (HasCause true (Some limits) new.told.series) start new.told.history 0 transcript dialogue is.opening
+  pub told : IsTold true (HasCause true (Some limits) new.told.series start) start new.told.history 0 transcript dialogue is.opening
   told =
-      subst (λ (n : ℕ). IsTold true (HasCause true (Some limits) new.told.series) start new.told.history n transcript dialogue is.opening) (is.kept.client ∙ begins.client)
-      (subst (λ (s : State). IsTold true (HasCause true (Some limits) new.told.series) s new.told.history new.told.client transcript dialogue is.opening) (is.kept.start ∙ begins.begins)
-      (subst (λ (o : Option Limits). IsTold true (HasCause true o new.told.series) new.told.start new.told.history new.told.client transcript dialogue is.opening) (is.kept.limits ∙ begins.limited)
-      (subst (λ (b : Bool). IsTold b (HasCause b new.told.limits new.told.series) new.told.start new.told.history new.told.client transcript dialogue is.opening) (is.kept.tells ∙ begins.tells) is.told)))
+      subst (λ (n : ℕ). IsTold true (HasCause true (Some limits) new.told.series start) start new.told.history n transcript dialogue is.opening) (is.kept.client ∙ begins.client)
+      (subst (λ (s : State). IsTold true (HasCause true (Some limits) new.told.series s) s new.told.history new.told.client transcript dialogue is.opening) (is.kept.start ∙ begins.begins)
+      (subst (λ (o : Option Limits). IsTold true (HasCause true o new.told.series new.told.start) new.told.start new.told.history new.told.client transcript dialogue is.opening) (is.kept.limits ∙ begins.limited)
+      (subst (λ (b : Bool). IsTold b (HasCause b new.told.limits new.told.series new.told.start) new.told.start new.told.history new.told.client transcript dialogue is.opening) (is.kept.tells ∙ begins.tells) is.told)))
 
   pub numbers : own_numbers dialogue ≡ numbers_from (start.number + 1) new.told.history
   numbers =
@@ -61,7 +61,7 @@ module _ (start : State) (limits : Limits) (old new : Stored) (transcript : Tran
       sym (is.own ∙ ap (λ (l : List ℕ). l ++ own_numbers dialogue) begins.own) ∙ owns
       ∙ ap (λ (s : State). store_numbers (s.number + 1) new.told.history) (is.kept.start ∙ begins.begins) ∙ same_numbers (start.number + 1) new.told.history
 
-  abbrev explained : ExplainedBut true (HasCause true (Some limits) new.told.series) start new.told.history (transcript ∷ [])
+  abbrev explained : ExplainedBut true (HasCause true (Some limits) new.told.series start) start new.told.history (transcript ∷ [])
   explained = record {
     dialogues = dialogue ∷ [];
     told = (is.opening, told, tt);

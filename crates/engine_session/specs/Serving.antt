@@ -49,7 +49,7 @@ AreTranscripts (session ∷ sessions) [] = ⊥
 pub record AreServed (sessions : List ClientSession) (start : State) (limits : Limits) (held : ℕ) (history : List Entry) (old new : Health) : Type 0 where
   pub transcripts : List Transcript
   pub are : AreTranscripts sessions transcripts
-  pub explained : ExplainedBut true (HasCause true (Some limits) held) start history transcripts
+  pub explained : ExplainedBut true (HasCause true (Some limits) held start) start history transcripts
   pub ages : Ages old new
   pub faults : min (old.faults + faults_in (flat_map all_answers explained.dialogues)) last_count ≤ new.faults
   pub quiet : faults_in (flat_map all_answers explained.dialogues) ≡ 0 → new ≡ old

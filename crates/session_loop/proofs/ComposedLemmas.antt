@@ -13,7 +13,7 @@ use Rattle.session_loop.proofs.StepLemmas.{given_in, longer}
 module _ (whole : Whole) where
   places_in : (client : ℕ) (part : Part) → IsPart whole client part → (least : ℕ) (answers : List Answer)
       → TakePlaces part.new.told.tells (HasCauseAt part.new.told) part.new.told.start part.new.told.history part.new.told.client least answers
-      → TakePlaces whole.tells (HasCause whole.tells whole.limits whole.series) whole.start whole.history client least answers
+      → TakePlaces whole.tells (HasCause whole.tells whole.limits whole.series whole.start) whole.start whole.history client least answers
   places_in client part is least [] places = tt
   places_in client part is least (answer ∷ answers) places = (
     places.0,
@@ -24,7 +24,7 @@ module _ (whole : Whole) where
 
   -- one session, seen from the whole history
   told_in : (client : ℕ) (part : Part) → (is : IsPart whole client part)
-      → IsTold whole.tells (HasCause whole.tells whole.limits whole.series) whole.start whole.history client part.transcript part.dialogue is.is.opening
+      → IsTold whole.tells (HasCause whole.tells whole.limits whole.series whole.start) whole.start whole.history client part.transcript part.dialogue is.is.opening
   told_in client part is =
       let told = is.is.told in
       record {
@@ -34,7 +34,7 @@ module _ (whole : Whole) where
       }
 
   all_told : (client : ℕ) (parts : List Part) → AreParts whole client parts
-      → AreToldFrom whole.tells (HasCause whole.tells whole.limits whole.series) whole.start whole.history client (map (λ part. part.transcript) parts) (map (λ part. part.dialogue) parts)
+      → AreToldFrom whole.tells (HasCause whole.tells whole.limits whole.series whole.start) whole.start whole.history client (map (λ part. part.transcript) parts) (map (λ part. part.dialogue) parts)
   all_told client [] are = tt
   all_told client (part ∷ parts) are = (are.0.is.opening, told_in client part are.0, all_told (client + 1) parts are.1)
 
@@ -50,7 +50,7 @@ module _ (whole : Whole) where
 
 pub composed : (whole : Whole) (parts : List Part) → AreParts whole 0 parts
     → IsPermutation (flat_map (λ part. part.new.told.own) parts) (numbers_from (whole.start.number + 1) whole.history)
-    → ExplainedBut whole.tells (HasCause whole.tells whole.limits whole.series) whole.start whole.history (map (λ part. part.transcript) parts)
+    → ExplainedBut whole.tells (HasCause whole.tells whole.limits whole.series whole.start) whole.start whole.history (map (λ part. part.transcript) parts)
 composed whole parts are once = record {
   dialogues = map (λ part. part.dialogue) parts;
   told = all_told whole 0 parts are;

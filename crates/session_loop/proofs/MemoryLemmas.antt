@@ -23,21 +23,21 @@ no_limit : IsSome {T = Limits} None → ⊥
 no_limit h = cc h
 
 -- without limits and faults only want of memory is a cause
-memory_alone : (tells : Bool) (series : ℕ) (before : List Entry) (answer : Answer) (reply : Reply) → (is_fault reply ≡ true → ⊥)
-    → ReplyHasCause tells None series before answer reply → reply ≡ OutOfMemory
-memory_alone tells series before answer OutOfMemory steady cause = refl
-memory_alone tells series before answer DeviceFault steady cause = absurd (steady refl)
-memory_alone tells series before answer (Damaged file offset) steady cause = absurd (no_limit cause.3)
-memory_alone tells series before answer (CacheFull held) steady cause = absurd cause.2
-memory_alone tells series before answer (SeriesFull held) steady cause = absurd cause.2
-memory_alone tells series before answer (Accepted number) steady cause = absurd cause
-memory_alone tells series before answer (Found number tables) steady cause = absurd cause
-memory_alone tells series before answer (Reached number) steady cause = absurd cause
-memory_alone tells series before answer (NotReached number) steady cause = absurd cause
-memory_alone tells series before answer NotBuilt steady cause = absurd cause
-memory_alone tells series before answer (Refused refusal) steady cause = absurd cause
-memory_alone tells series before answer (TypeConflict field held number) steady cause = absurd cause
-memory_alone tells series before answer HistoryFull steady cause = absurd cause
+memory_alone : (tells : Bool) (series : ℕ) (start : State) (before : List Entry) (answer : Answer) (reply : Reply) → (is_fault reply ≡ true → ⊥)
+    → ReplyHasCause tells None series start before answer reply → reply ≡ OutOfMemory
+memory_alone tells series start before answer OutOfMemory steady cause = refl
+memory_alone tells series start before answer DeviceFault steady cause = absurd (steady refl)
+memory_alone tells series start before answer (Damaged file offset) steady cause = absurd (no_limit cause.3)
+memory_alone tells series start before answer (CacheFull held) steady cause = absurd cause.4
+memory_alone tells series start before answer (SeriesFull held) steady cause = absurd cause.3
+memory_alone tells series start before answer (Accepted number) steady cause = absurd cause
+memory_alone tells series start before answer (Found number tables) steady cause = absurd cause
+memory_alone tells series start before answer (Reached number) steady cause = absurd cause
+memory_alone tells series start before answer (NotReached number) steady cause = absurd cause
+memory_alone tells series start before answer NotBuilt steady cause = absurd cause
+memory_alone tells series start before answer (Refused refusal) steady cause = absurd cause
+memory_alone tells series start before answer (TypeConflict field held number) steady cause = absurd cause
+memory_alone tells series start before answer HistoryFull steady cause = absurd cause
 
 first_steady : (fault : Bool) (more : ℕ) → (if fault then 1 else 0) + more ≡ 0 → fault ≡ true → ⊥
 first_steady true more none is = omega (arith, none)
@@ -51,8 +51,8 @@ given_memory : (told : Told) (answer : Answer) (place : ℕ) → told.limits ≡
     → IsGivenAt told.tells (HasCauseAt told) told.start told.history told.client answer place → IsGivenAt told.tells OutOfMemoryAlone told.start told.history told.client answer place
 given_memory told answer place none steady given =
     given_by told.tells (HasCauseAt told) OutOfMemoryAlone told.start told.history told.client answer place
-    (λ before cause. memory_alone told.tells told.series before answer answer.reply steady
-    (subst (λ (o : Option Limits). ReplyHasCause told.tells o told.series before answer answer.reply) none cause)) given
+    (λ before cause. memory_alone told.tells told.series told.start before answer answer.reply steady
+    (subst (λ (o : Option Limits). ReplyHasCause told.tells o told.series told.start before answer answer.reply) none cause)) given
 
 places_memory : (told : Told) (least : ℕ) (answers : List Answer) → told.limits ≡ None → faults_in answers ≡ 0
     → TakePlaces told.tells (HasCauseAt told) told.start told.history told.client least answers → TakePlaces told.tells OutOfMemoryAlone told.start told.history told.client least answers

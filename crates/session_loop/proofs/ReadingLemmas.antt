@@ -2,19 +2,23 @@
 use Rattle.std.proofs.Common.{◌≡◌, ◌≢◌, ◌<◌, ◌≤◌, ℕ, ℤ, Bool, true, false, not, nat_lt, ◌==◌, List, [], ◌∷◌, ◌++◌, length, drop, refl, sym, ap, ◌∙◌, subst, arith, inl, inr, append_assoc, codes, Option, Some, None, MatchOption, Result, Ok, Err, IfOk}
 use Rattle.std.specs.List.{list_all}
 use Rattle.std.specs.Str.{IsUtf8, is_utf8}
-use Rattle.std.specs.Prelude.{MatchBool}
+use Rattle.std.specs.Prelude.{MatchBool, IfSome, IfNone, ⊤}
 use Rattle.std.specs.declared.alloc.AllocError.{AllocError}
 use Rattle.std.proofs.lemmas.Bool.Decides.{nat_tests, eqb_tells}
 use Rattle.std.proofs.lemmas.Str.{is_utf8-from_IsUtf8, IsUtf8-from_is_utf8}
+use Rattle.point_model.specs.declared.deletion.Deletion.{Deletion}
+use Rattle.influxql_parser.specs.declared.fault.ReadFault.{ReadFault}
+use Rattle.influxql_parser.specs.declared.fault.ReadFault.TheVariants as read_fault
+use Rattle.influxql_parser.specs.Deletions.{BeginsDeletion, DeletionsBegin, IsDeletion, IsRefusedDeletion}
 use Rattle.session_model.specs.declared.statement.Refusal.{Refusal}
-use Rattle.session_model.specs.declared.statement.Refusal.TheVariants.{LineTooLong, NotText}
+use Rattle.session_model.specs.declared.statement.Refusal.TheVariants.{LineTooLong, NotText, Syntax, TimeInOr, NumberRange}
 use Rattle.session_model.specs.declared.statement.Statement.{Statement}
 use Rattle.session_model.specs.declared.statement.Statement.TheVariants as statement
 use Rattle.session_model.specs.Readable.{Lacks}
 use Rattle.session_model.specs.Lines.{Request}
 use Rattle.session_model.specs.Lines.Request.{Line}
 use Rattle.session_model.specs.Words.{IsWord}
-use Rattle.session_model.specs.Requests.{Means, Says, LineSays, TextSays, SaysSelect, first_of, refusal_of}
+use Rattle.session_model.specs.Requests.{Means, Says, LineSays, TextSays, SaysSelect, SelectSays, WordsSay, first_of, refusal_of}
 use Rattle.session_model.proofs.TextLemmas.{cut_at, and_parts}
 use Rattle.session_loop.specs.Cuts.{CutsAt}
 use Rattle.session_loop.specs.LineAsItComes.{StandsFor}
@@ -70,6 +74,38 @@ module _ (text : List ℕ) where
         of_field = of_field;
         of_measurement = of_measurement;
       }
+
+-- Whether the first word of a line is DELETE or DROP.
+
+-- the refusal that tells a fault of the reader
+abbrev pub refused_for : ReadFault → Option Refusal
+refused_for read_fault.Syntax = Some Syntax
+refused_for read_fault.TimeInOr = Some TimeInOr
+refused_for read_fault.NumberRange = Some NumberRange
+refused_for read_fault.Memory = None
+
+module _ (begin : DeletionsBegin) (line : List ℕ) (now moment : ℤ) (same : now ≡ moment) where
+  pub deletion_said : (read : Option Deletion) (deletion : Deletion) → read ≡ Some deletion → IfSome read (IsDeletion line now) → WordsSay line moment (statement.Delete deletion)
+  deletion_said None deletion is found = cc is
+  deletion_said (Some other) deletion is found =
+      let here : IsDeletion line now deletion = subst (λ (o : Option Deletion). IfSome o (IsDeletion line now)) is found in
+      subst (λ (n : ℤ). WordsSay line n (statement.Delete deletion)) same (inl (begin line now here.read here.reads, here))
+
+  pub refused_said : (fault : ReadFault) → IsRefusedDeletion line now fault → MatchOption (refused_for fault) ⊤ (λ refusal. WordsSay line moment (statement.Refused refusal))
+  refused_said read_fault.Syntax is = subst (λ (n : ℤ). WordsSay line n (statement.Refused Syntax)) same (inl (is.0, is.1))
+  refused_said read_fault.TimeInOr is = subst (λ (n : ℤ). WordsSay line n (statement.Refused TimeInOr)) same (inl (begin line now is.0 is.1, is))
+  refused_said read_fault.NumberRange is = subst (λ (n : ℤ). WordsSay line n (statement.Refused NumberRange)) same (inl (begin line now is.0 is.1, is))
+  refused_said read_fault.Memory is = tt
+
+others_say : (line : List ℕ) (moment : ℤ) (read : Result Statement AllocError) → ¬ (BeginsDeletion line) → IfOk read (SelectSays line) → IfOk read (WordsSay line moment)
+others_say line moment (Ok asks) none says = inr (none, says)
+others_say line moment (Err error) none says = tt
+
+pub others_said : (line bytes : List ℕ) (moment : ℤ) (read : Result Statement AllocError) (none : Option Deletion) → bytes ≡ line → none ≡ None → IfNone none (¬ (BeginsDeletion line))
+    → IfOk read (SelectSays bytes) → IfOk read (WordsSay line moment)
+others_said line bytes moment read None same is never says =
+    others_say line moment read never (subst (λ (l : List ℕ). IfOk read (SelectSays l)) same says)
+others_said line bytes moment read (Some deletion) same is never says = cc is
 
 -- Whether a text is UTF-8.
 

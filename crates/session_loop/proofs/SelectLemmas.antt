@@ -128,13 +128,13 @@ view_memory old new asks bytes spelled kept alike still = record {
 }
 
 -- a device failed
-pub view_refused : (old new : Stored) (asks : Statement) (bytes : List ℕ) → bytes ≡ text DeviceFault → Keeps old.told new.told → IsAlike old.told new.told
-    → Ages old.health new.health → Failed old.health new.health → Serves old asks bytes None new
-view_refused old new asks bytes spelled kept alike ages failed = record {
+pub view_refused : (old new : Stored) (field measurement bytes : List ℕ) → bytes ≡ text DeviceFault → Keeps old.told new.told → IsAlike old.told new.told
+    → Ages old.health new.health → Failed old.health new.health → Serves old (statement.Select field measurement) bytes None new
+view_refused old new field measurement bytes spelled kept alike ages failed = record {
   reply = DeviceFault;
   spelled = spelled;
   step = λ request moment means. step_now old new (answer_to request moment DeviceFault None) kept alike ages refl tt (λ same. failed.rose)
-      (λ other. absurd (other refl)) (inl (record { aside = tt; cause = tt; number = inl refl }));
+      (λ other. absurd (other refl)) (inl (record { aside = tt; cause = (statement.Select field measurement, means, tt); number = inl refl }));
 }
 
 -- A view was begun.
@@ -286,7 +286,7 @@ module _ {X : Type 0} (view : X → List Row) (old mid new : Stored) (field meas
   reply_step (Err cursor_fault.Fault) seen readable request moment means =
       aside_step (Err cursor_fault.Fault) seen request moment DeviceFault refl tt
       (λ same. view_fault old.health mid.health new.health seen.began seen.now (ages_same old.health mid.health seen.still) seen.fresh (seen.cause.fault refl) seen.back)
-      (λ other. absurd (other refl)) (inl (record { aside = tt; cause = tt; number = inr (now_told (Err cursor_fault.Fault) seen) }))
+      (λ other. absurd (other refl)) (inl (record { aside = tt; cause = (statement.Select field measurement, means, tt); number = inr (now_told (Err cursor_fault.Fault) seen) }))
   reply_step (Err (cursor_fault.Damaged damage)) seen readable request moment means =
       aside_step (Err (cursor_fault.Damaged damage)) seen request moment (Damaged damage.file damage.offset) refl readable
       (λ same. absurd (damaged_not_fault damage.file damage.offset same))

@@ -9,10 +9,15 @@ use Rattle.tsdb_types.specs.declared.point.Point.{Point}
 use Rattle.tsdb_types.specs.declared.value.Kind.{Kind}
 use Rattle.std.specs.declared.alloc.AllocError.{AllocError}
 use Rattle.point_model.specs.Histories.{State}
-use Rattle.point_model.specs.declared.entry.Entry.TheVariants.{Write as Write_entry}
+use Rattle.point_model.specs.declared.entry.Entry.{Entry}
+use Rattle.point_model.specs.declared.entry.Entry.TheVariants.{Write as Write_entry, Delete as Delete_entry}
 use Rattle.point_model.specs.Acceptance.{Conflict, conflict}
 use Rattle.store_trait.specs.Told.{Told, Keeps, IsAlike, state_now}
-use Rattle.store_trait.specs.Calls.Write.{WriteHasCause, Conflicts}
+use Rattle.store_trait.specs.Calls.Write.{WriteHasCause, Conflicts, IsOpen}
+use Rattle.store_trait.specs.Calls.Delete.{DeleteHasCause}
+use Rattle.store_trait.specs.declared.fault.DeleteFault.{DeleteFault}
+use Rattle.store_trait.specs.declared.fault.DeleteFault.TheVariants as delete_fault
+use Rattle.point_model.specs.declared.deletion.Deletion.{Deletion}
 use Rattle.store_trait.specs.declared.fault.WriteFault.{WriteFault}
 use Rattle.store_trait.specs.declared.fault.WriteFault.TheVariants as fault
 use Rattle.session_model.specs.declared.statement.Statement.TheVariants as statement
@@ -22,10 +27,10 @@ use Rattle.session_model.specs.Readable.{IsReadable, Lacks}
 use Rattle.session_model.specs.declared.statement.Refusal.{Refusal}
 use Rattle.session_model.specs.Replies.{Reply, text, named, accepted}
 use Rattle.session_model.specs.Replies.Reply.{Accepted, Reached, NotReached, NotBuilt, Refused, TypeConflict, HistoryFull, OutOfMemory, DeviceFault, CacheFull, SeriesFull}
-use Rattle.session_model.specs.Machine.{Served, Serves as Is_machines, serve_batch}
-use Rattle.session_loop.specs.Steps.{Stored, Step, Serves, ServesRead, answer_to}
-use Rattle.session_loop.specs.Texts.{IsTextOf, reply_to, number_in}
-use Rattle.session_loop.proofs.StepLemmas.{step_now, serves_or_memory, memory_step, keeps_still, ages_same, free_points}
+use Rattle.session_model.specs.Machine.{Served, Serves as Is_machines, serve_batch, serve_entry}
+use Rattle.session_loop.specs.Steps.{Stored, Step, Serves, ServesRead, CouldTake, answer_to}
+use Rattle.session_loop.specs.Texts.{IsTextOf, reply_to, number_in, reply_to_deletion, number_of_refusal}
+use Rattle.session_loop.proofs.StepLemmas.{step_now, serves_or_memory, memory_step, keeps_still, ages_same, free_points, fits_told}
 
 -- AFTER.
 
@@ -105,16 +110,22 @@ conflict_given told points request moment field held number means found is =
       entry_made = sym (ap (λ (s : Served). s.entry) served);
     }
 
+-- at the last number the machine makes no entry
+none_served : (number : ℕ) (made : Entry) → number ≡ 9223372036854775807
+    → (let served : Served = record { reply = HistoryFull; entry = None } in serve_entry number made ≡ served)
+none_served number made is =
+    let test : nat_lt number 9223372036854775807 ≡ false = grind (arith, nat_tests) in
+    let yes : Served = record { reply = Accepted (number + 1); entry = Some made } in
+    let no : Served = record { reply = HistoryFull; entry = None } in
+    ap (λ (t : Bool). if t then yes else no) test
+
 full_given : (told : Told) (points : List Point) (request : Request) (moment : ℤ) → Means request moment (statement.Write points)
     → (IsTrue told.tells → conflict (state_now told).points points ≡ None) → (state_now told).number ≡ 9223372036854775807
     → Is_machines told.tells (state_now told) told.client (answer_to request moment HistoryFull (Some 9223372036854775807)) None
 full_given told points request moment means free is =
     let state : State = state_now told in
     let open_to = free_points told.tells state.points points free in
-    let test : nat_lt state.number 9223372036854775807 ≡ false = grind (arith, nat_tests) in
-    let yes : Served = record { reply = Accepted (state.number + 1); entry = Some (Write_entry told.client points) } in
-    let no : Served = record { reply = HistoryFull; entry = None } in
-    let served = ap (serve_batch state.number told.client points) open_to.free ∙ ap (λ (t : Bool). if t then yes else no) test in
+    let served = ap (serve_batch state.number told.client points) open_to.free ∙ none_served state.number (Write_entry told.client points) is in
     record {
       asks = statement.Write points;
       means = means;
@@ -124,6 +135,10 @@ full_given told points request moment means free is =
       number = refl;
       entry_made = sym (ap (λ (s : Served). s.entry) served);
     }
+
+-- what the store says of a batch that it could take
+could_take : (told : Told) (points : List Point) → IsOpen points told → CouldTake told.tells (state_now told) points
+could_take told points open_to = record { accepted = open_to.accepted; number = open_to.number }
 
 module _ (old new : Stored) (points : List Point) (bytes : List ℕ) (kept : Keeps old.told new.told) (alike : IsAlike old.told new.told) (ages : Ages old.health new.health) where
   abbrev Refuses : WriteFault → Type 0
@@ -145,12 +160,12 @@ module _ (old new : Stored) (points : List Point) (bytes : List ℕ) (kept : Kee
       let still = quiet (λ same. cc same) in
       serves_or_memory old new (statement.Write points) bytes (SeriesFull held) None spelled kept alike (λ long. still) (inl refl) (λ request moment means.
       step_now old new (answer_to request moment (SeriesFull held) None) kept alike ages refl readable (λ same. absurd (no_series_fault held same))
-      (λ other. still) (inl (record { aside = tt; cause = (points, means, cause.1); number = inl refl })))
+      (λ other. still) (inl (record { aside = tt; cause = (points, means, could_take new.told points cause.0, cause.1); number = inl refl })))
   refused_serves (fault.CacheFull held) spelled readable cause quiet =
       let still = quiet (λ same. cc same) in
       serves_or_memory old new (statement.Write points) bytes (CacheFull held) None spelled kept alike (λ long. still) (inl refl) (λ request moment means.
       step_now old new (answer_to request moment (CacheFull held) None) kept alike ages refl readable (λ same. absurd (no_cache_fault held same))
-      (λ other. still) (inl (record { aside = tt; cause = (points, means, cause.2); number = inl refl })))
+      (λ other. still) (inl (record { aside = tt; cause = (points, means, could_take new.told points cause.0, fits_told new.told points cause.1, cause.2); number = inl refl })))
   refused_serves fault.Memory spelled readable cause quiet =
       let still = quiet (λ same. cc same) in
       serves_or_memory old new (statement.Write points) bytes OutOfMemory None spelled kept alike (λ long. still) (inl refl)
@@ -158,7 +173,49 @@ module _ (old new : Stored) (points : List Point) (bytes : List ℕ) (kept : Kee
   refused_serves fault.Fault spelled readable cause quiet =
       serves_or_memory old new (statement.Write points) bytes DeviceFault None spelled kept alike (λ long. absurd long) (inl refl) (λ request moment means.
       step_now old new (answer_to request moment DeviceFault None) kept alike ages refl tt (λ same. cause.0.rose)
-      (λ other. absurd (other refl)) (inl (record { aside = tt; cause = tt; number = inl refl })))
+      (λ other. absurd (other refl))
+      (inl (record { aside = tt; cause = (statement.Write points, means, (could_take new.told points cause.1, fits_told new.told points cause.2, cause.3)); number = inl refl })))
+
+-- A deletion that was refused.
+
+full_deletion_given : (told : Told) (deletion : Deletion) (request : Request) (moment : ℤ) → Means request moment (statement.Delete deletion)
+    → (state_now told).number ≡ 9223372036854775807
+    → Is_machines told.tells (state_now told) told.client (answer_to request moment HistoryFull (Some 9223372036854775807)) None
+full_deletion_given told deletion request moment means is =
+    let state : State = state_now told in
+    let served = none_served state.number (Delete_entry told.client deletion) is in
+    record {
+      asks = statement.Delete deletion;
+      means = means;
+      points = state.points;
+      are_told = λ tells. refl;
+      reply = sym (ap (λ (s : Served). s.reply) served);
+      number = refl;
+      entry_made = sym (ap (λ (s : Served). s.entry) served);
+    }
+
+module _ (old new : Stored) (deletion : Deletion) (bytes : List ℕ) (kept : Keeps old.told new.told) (alike : IsAlike old.told new.told) (ages : Ages old.health new.health) where
+  pub deletion_refused_serves : (why : DeleteFault) → bytes ≡ text (reply_to_deletion why) → DeleteHasCause new.told old.health new.health why
+      → ((why ≡ delete_fault.Fault → ⊥) → new.health ≡ old.health) → Serves old (statement.Delete deletion) bytes (number_of_refusal why) new
+  deletion_refused_serves delete_fault.HistoryFull spelled cause quiet = record {
+    reply = HistoryFull;
+    spelled = spelled;
+    step = λ request moment means.
+        step_now old new (answer_to request moment HistoryFull (Some 9223372036854775807)) kept alike ages refl tt (λ same. absurd (no_full_fault same))
+        (λ other. quiet (λ same. cc same)) (inr (full_deletion_given new.told deletion request moment means cause));
+  }
+  deletion_refused_serves delete_fault.Memory spelled cause quiet = record {
+    reply = OutOfMemory;
+    spelled = spelled;
+    step = λ request moment means. memory_step old new request moment None kept alike (quiet (λ same. cc same)) (inl refl);
+  }
+  deletion_refused_serves delete_fault.Fault spelled cause quiet = record {
+    reply = DeviceFault;
+    spelled = spelled;
+    step = λ request moment means.
+        step_now old new (answer_to request moment DeviceFault None) kept alike ages refl tt (λ same. cause.0.rose)
+        (λ other. absurd (other refl)) (inl (record { aside = tt; cause = (statement.Delete deletion, means, cause.1); number = inl refl }));
+  }
 
 -- A request that asks the store nothing.
 

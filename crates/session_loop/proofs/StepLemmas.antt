@@ -12,10 +12,12 @@ use Rattle.shard_disk.proofs.HealthLemmas.{ages_still, ages_then}
 use Rattle.tsdb_types.specs.declared.point.Point.{Point}
 use Rattle.point_model.specs.declared.entry.Entry.{Entry}
 use Rattle.point_model.specs.Histories.{State, state_after}
-use Rattle.point_model.specs.declared.entry.Entry.TheVariants.{Write as Write_entry}
+use Rattle.point_model.specs.declared.entry.Entry.TheVariants.{Write as Write_entry, Delete as Delete_entry}
 use Rattle.point_model.specs.Acceptance.{Conflict, conflict}
 use Rattle.store_trait.specs.Told.{Told, Limits, Keeps, IsAlike, IsLater, state_now}
-use Rattle.store_trait.specs.Calls.Write.{Accepts, PassesCache, PassesSeries}
+use Rattle.store_trait.specs.Calls.Entry.{Accepts}
+use Rattle.store_trait.specs.Calls.Write.{FitsCache, FitsSeries, PassesCache, PassesSeries}
+use Rattle.point_model.specs.declared.deletion.Deletion.{Deletion}
 use Rattle.point_model.specs.Points.{Points}
 use Rattle.session_model.specs.declared.statement.Statement.{Statement}
 use Rattle.session_model.specs.declared.statement.Statement.TheVariants as statement
@@ -24,10 +26,10 @@ use Rattle.session_model.specs.Requests.{Means}
 use Rattle.session_model.specs.Readable.{IsReadable}
 use Rattle.session_model.specs.Replies.{Reply, accepted}
 use Rattle.session_model.specs.Replies.Reply.{Accepted, Found, Reached, NotReached, NotBuilt, Refused, TypeConflict, HistoryFull, OutOfMemory, DeviceFault, Damaged, CacheFull, SeriesFull}
-use Rattle.session_model.specs.Machine.{Answer, Served, Serves as Is_machines, IsAside, serve_batch}
+use Rattle.session_model.specs.Machine.{Answer, Served, Serves as Is_machines, IsAside, serve_batch, serve_entry}
 use Rattle.session_model.specs.Explained.{IsGivenAt, TakePlaces}
 use Rattle.session_loop.specs.Sessions.{is_fault, faults_in}
-use Rattle.session_loop.specs.Steps.{Stored, Step, Steps, Serves, ReplyHasCause, HasCause, HasCauseAt, answer_to}
+use Rattle.session_loop.specs.Steps.{Stored, Step, Steps, Serves, CouldTake, FitsHeld, CouldFail, ReplyHasCause, HasCause, HasCauseAt, answer_to}
 use Rattle.session_loop.specs.Texts.{IsTextOf, IsLong}
 
 -- Histories.
@@ -117,25 +119,83 @@ series_passes series more before points held low limits passes = record {
   passes = passes.passes;
 }
 
--- a cause stays one while the limits stay and no series goes
-pub cause_later : (tells tells' : Bool) (limits limits' : Option Limits) (series series' : ℕ) (before : List Entry) (answer : Answer) (reply : Reply)
-    → tells' ≡ tells → limits' ≡ limits → series ≤ series' → ReplyHasCause tells limits series before answer reply → ReplyHasCause tells' limits' series' before answer reply
-cause_later tells tells' limits limits' series series' before answer OutOfMemory told limited more cause = tt
-cause_later tells tells' limits limits' series series' before answer DeviceFault told limited more cause = tt
-cause_later tells tells' limits limits' series series' before answer (Damaged file offset) told limited more cause =
+could_take_later : (tells tells' : Bool) (start start' : State) (before : List Entry) (points : List Point) → tells' ≡ tells → start' ≡ start
+    → CouldTake tells (state_after start before) points → CouldTake tells' (state_after start' before) points
+could_take_later tells tells' start start' before points told began could =
+    subst (λ (b : Bool). CouldTake b (state_after start' before) points) (sym told) (subst (λ (s : State). CouldTake tells (state_after s before) points) (sym began) could)
+
+if_by : {X : Type 0} (a b : Option X) (P Q : X → Type 0) → b ≡ a → ((x : X) → P x → Q x) → IfSome a P → IfSome b Q
+if_by None b P Q same weaker h = subst (λ (o : Option _). IfSome o Q) (sym same) tt
+if_by (Some x) b P Q same weaker h = subst (λ (o : Option _). IfSome o Q) (sym same) (weaker x h)
+
+fits_later : (series more : ℕ) (before : List Entry) (points : List Point) → series ≤ more → (limits : Limits) → FitsHeld points series before limits → FitsHeld points more before limits
+fits_later series more before points low limits fits = record {
+  held = fits.held;
+  known = fits.known;
+  new = fits.new;
+  are_known = fits.are_known;
+  are_new = fits.are_new;
+  no_fewer = fits.no_fewer;
+  are_held = (let most = fits.are_held in omega arith);
+  fits = fits.fits;
+}
+
+-- what the store says of a batch whose new series are within its limit
+pub fits_told : (told : Told) (points : List Point) → IfSome told.limits (FitsSeries points told) → IfSome told.limits (FitsHeld points told.series told.history)
+fits_told told points fits = if_by told.limits told.limits (FitsSeries points told) (FitsHeld points told.series told.history) refl (λ limits here. record {
+  held = here.held;
+  known = here.known;
+  new = here.new;
+  are_known = here.are_known;
+  are_new = here.are_new;
+  no_fewer = here.no_fewer;
+  are_held = here.are_held;
+  fits = here.fits;
+}) fits
+
+could_fail_later : (tells tells' : Bool) (limits limits' : Option Limits) (series series' : ℕ) (start start' : State) (before : List Entry) (asks : Statement)
+    → tells' ≡ tells → limits' ≡ limits → series ≤ series' → start' ≡ start → CouldFail tells limits series start before asks → CouldFail tells' limits' series' start' before asks
+could_fail_later tells tells' limits limits' series series' start start' before (statement.Write points) told limited more began could = (
+  could_take_later tells tells' start start' before points told began could.0,
+  if_by limits limits' (FitsHeld points series before) (FitsHeld points series' before) limited (fits_later series series' before points more) could.1,
+  if_by limits limits' (FitsCache points) (FitsCache points) limited (λ l fits. fits) could.2,
+)
+could_fail_later tells tells' limits limits' series series' start start' before (statement.Delete deletion) told limited more began could =
+    subst (λ (s : State). (state_after s before).number < 9223372036854775807) (sym began) could
+could_fail_later tells tells' limits limits' series series' start start' before (statement.Select field measurement) told limited more began could = tt
+could_fail_later tells tells' limits limits' series series' start start' before (statement.After number) told limited more began could = absurd could
+could_fail_later tells tells' limits limits' series series' start start' before (statement.Refused refusal) told limited more began could = absurd could
+could_fail_later tells tells' limits limits' series series' start start' before statement.NotBuilt told limited more began could = absurd could
+
+-- a cause stays one while the limits and the start stay and no series goes
+pub cause_later : (tells tells' : Bool) (limits limits' : Option Limits) (series series' : ℕ) (start start' : State) (before : List Entry) (answer : Answer) (reply : Reply)
+    → tells' ≡ tells → limits' ≡ limits → series ≤ series' → start' ≡ start → ReplyHasCause tells limits series start before answer reply
+    → ReplyHasCause tells' limits' series' start' before answer reply
+cause_later tells tells' limits limits' series series' start start' before answer OutOfMemory told limited more began cause = tt
+cause_later tells tells' limits limits' series series' start start' before answer DeviceFault told limited more began cause = (cause.0, cause.1, could_fail_later tells tells' limits limits' series series' start start' before cause.0 told limited more began cause.2)
+cause_later tells tells' limits limits' series series' start start' before answer (Damaged file offset) told limited more began cause =
     (cause.0, cause.1, cause.2, subst (λ (o : Option Limits). IsSome o) (sym limited) cause.3, told ∙ cause.4)
-cause_later tells tells' limits limits' series series' before answer (CacheFull held) told limited more cause =
-    (cause.0, cause.1, some_by limits limits' (PassesCache cause.0 held before) (PassesCache cause.0 held before) limited (λ l passes. passes) cause.2)
-cause_later tells tells' limits limits' series series' before answer (SeriesFull held) told limited more cause =
-    (cause.0, cause.1, some_by limits limits' (PassesSeries cause.0 held series before) (PassesSeries cause.0 held series' before) limited (series_passes series series' before cause.0 held more) cause.2)
-cause_later tells tells' limits limits' series series' before answer (Accepted number) told limited more cause = cause
-cause_later tells tells' limits limits' series series' before answer (Found number tables) told limited more cause = cause
-cause_later tells tells' limits limits' series series' before answer (Reached number) told limited more cause = cause
-cause_later tells tells' limits limits' series series' before answer (NotReached number) told limited more cause = cause
-cause_later tells tells' limits limits' series series' before answer NotBuilt told limited more cause = cause
-cause_later tells tells' limits limits' series series' before answer (Refused refusal) told limited more cause = cause
-cause_later tells tells' limits limits' series series' before answer (TypeConflict field held number) told limited more cause = cause
-cause_later tells tells' limits limits' series series' before answer HistoryFull told limited more cause = cause
+cause_later tells tells' limits limits' series series' start start' before answer (CacheFull held) told limited more began cause = (
+  cause.0,
+  cause.1,
+  could_take_later tells tells' start start' before cause.0 told began cause.2,
+  if_by limits limits' (FitsHeld cause.0 series before) (FitsHeld cause.0 series' before) limited (fits_later series series' before cause.0 more) cause.3,
+  some_by limits limits' (PassesCache cause.0 held before) (PassesCache cause.0 held before) limited (λ l passes. passes) cause.4,
+)
+cause_later tells tells' limits limits' series series' start start' before answer (SeriesFull held) told limited more began cause = (
+  cause.0,
+  cause.1,
+  could_take_later tells tells' start start' before cause.0 told began cause.2,
+  some_by limits limits' (PassesSeries cause.0 held series before) (PassesSeries cause.0 held series' before) limited (series_passes series series' before cause.0 held more) cause.3,
+)
+cause_later tells tells' limits limits' series series' start start' before answer (Accepted number) told limited more began cause = cause
+cause_later tells tells' limits limits' series series' start start' before answer (Found number tables) told limited more began cause = cause
+cause_later tells tells' limits limits' series series' start start' before answer (Reached number) told limited more began cause = cause
+cause_later tells tells' limits limits' series series' start start' before answer (NotReached number) told limited more began cause = cause
+cause_later tells tells' limits limits' series series' start start' before answer NotBuilt told limited more began cause = cause
+cause_later tells tells' limits limits' series series' start start' before answer (Refused refusal) told limited more began cause = cause
+cause_later tells tells' limits limits' series series' start start' before answer (TypeConflict field held number) told limited more began cause = cause
+cause_later tells tells' limits limits' series series' start start' before answer HistoryFull told limited more began cause = cause
 
 -- Steps, one after another.
 
@@ -179,12 +239,12 @@ no_fault_told reply more none same = none_in_first (is_fault reply) more none (a
 -- what was given over a store is given in a longer history, with the same start, limits and client, and no fewer series
 pub given_in : (mid : Told) (tells : Bool) (limits : Option Limits) (series : ℕ) (start : State) (history : List Entry) (client : ℕ) (answer : Answer) (place : ℕ)
     → tells ≡ mid.tells → limits ≡ mid.limits → mid.series ≤ series → start ≡ mid.start → IsLater mid.history history → client ≡ mid.client
-    → IsGivenAt mid.tells (HasCauseAt mid) mid.start mid.history mid.client answer place → IsGivenAt tells (HasCause tells limits series) start history client answer place
+    → IsGivenAt mid.tells (HasCauseAt mid) mid.start mid.history mid.client answer place → IsGivenAt tells (HasCause tells limits series start) start history client answer place
 given_in mid tells limits series start history client answer place told limited more begins later named here =
-    let Cause = HasCause tells limits series in
+    let Cause = HasCause tells limits series start in
     let longer_one = given_longer mid.tells (HasCauseAt mid) mid.start mid.history later.since mid.client answer place here in
     let weaker = given_by mid.tells (HasCauseAt mid) Cause mid.start (mid.history ++ later.since) mid.client answer place
-    (λ before cause. cause_later mid.tells tells mid.limits limits mid.series series before answer answer.reply told limited more cause) longer_one in
+    (λ before cause. cause_later mid.tells tells mid.limits limits mid.series series mid.start start before answer answer.reply told limited more begins cause) longer_one in
     let whole : mid.history ++ later.since ≡ history = sym later.begins in
     subst (λ (b : Bool). IsGivenAt b Cause start history client answer place) (sym told)
     (subst (λ (s : State). IsGivenAt mid.tells Cause s history client answer place) (sym begins)
@@ -315,69 +375,114 @@ get_seam : (before : List Entry) (entry : Entry) → slice_get (before ++ entry 
 get_seam [] entry = refl
 get_seam (e ∷ before) entry = get_seam before entry
 
-batch_served : (number client : ℕ) (points : List Point) (found : Option Conflict) → found ≡ None → number < 9223372036854775807
-    → (let served : Served = record { reply = Accepted (number + 1); entry = Some (Write_entry client points) } in serve_batch number client points found ≡ served)
-batch_served number client points found none low =
+-- below the last number the machine makes the entry
+entry_served : (number : ℕ) (made : Entry) → number < 9223372036854775807
+    → (let served : Served = record { reply = Accepted (number + 1); entry = Some made } in serve_entry number made ≡ served)
+entry_served number made low =
     let test : nat_lt number 9223372036854775807 ≡ true = grind (arith, nat_tests) in
-    let yes : Served = record { reply = Accepted (number + 1); entry = Some (Write_entry client points) } in
+    let yes : Served = record { reply = Accepted (number + 1); entry = Some made } in
     let no : Served = record { reply = HistoryFull; entry = None } in
-    ap (serve_batch number client points) none ∙ ap (λ (t : Bool). if t then yes else no) test
+    ap (λ (t : Bool). if t then yes else no) test
 
-entry_given : (tells : Bool) (Cause : List Entry → Answer → Type 0) (start : State) (before : List Entry) (client : ℕ) (request : Request) (moment : ℤ) (points : List Point) (number : ℕ)
-    → Means request moment (statement.Write points) → (IsTrue tells → conflict (state_after start before).points points ≡ None)
-    → number ≡ (start.number + length before) + 1 → start.number + length before < 9223372036854775807
-    → IsGivenAt tells Cause start (before ++ Write_entry client points ∷ []) client (answer_to request moment (Accepted number) (Some number)) (length before)
-entry_given tells Cause start before client request moment points number means free is low =
-    let sum = length-append before (Write_entry client points ∷ []) in
-    let state : State = state_after start before in
+batch_made : (tells : Bool) (state : State) (client : ℕ) (request : Request) (moment : ℤ) (points : List Point) (number : ℕ)
+    → Means request moment (statement.Write points) → (IsTrue tells → conflict state.points points ≡ None)
+    → number ≡ state.number + 1 → state.number < 9223372036854775807
+    → Is_machines tells state client (answer_to request moment (Accepted number) (Some number)) (Some (Write_entry client points))
+batch_made tells state client request moment points number means free is low =
     let open_to = free_points tells state.points points free in
-    let served = batch_served state.number client points (conflict open_to.points points) open_to.free low in
-    let whole : before ≡ take (length before) (before ++ Write_entry client points ∷ []) = sym (take-append_seam before (Write_entry client points ∷ [])) in (
+    let served = ap (serve_batch state.number client points) open_to.free ∙ entry_served state.number (Write_entry client points) low in
+    record {
+      asks = statement.Write points;
+      means = means;
+      points = open_to.points;
+      are_told = open_to.are_told;
+      reply = ap Accepted is ∙ sym (ap (λ (s : Served). s.reply) served);
+      number = refl;
+      entry_made = sym (ap (λ (s : Served). s.entry) served);
+    }
+
+deletion_made : (tells : Bool) (state : State) (client : ℕ) (request : Request) (moment : ℤ) (deletion : Deletion) (number : ℕ)
+    → Means request moment (statement.Delete deletion) → number ≡ state.number + 1 → state.number < 9223372036854775807
+    → Is_machines tells state client (answer_to request moment (Accepted number) (Some number)) (Some (Delete_entry client deletion))
+deletion_made tells state client request moment deletion number means is low =
+    let served = entry_served state.number (Delete_entry client deletion) low in
+    record {
+      asks = statement.Delete deletion;
+      means = means;
+      points = state.points;
+      are_told = λ told. refl;
+      reply = ap Accepted is ∙ sym (ap (λ (s : Served). s.reply) served);
+      number = refl;
+      entry_made = sym (ap (λ (s : Served). s.entry) served);
+    }
+
+entry_given : (tells : Bool) (Cause : List Entry → Answer → Type 0) (start : State) (before : List Entry) (made : Entry) (client : ℕ) (answer : Answer)
+    → Is_machines tells (state_after start before) client answer (Some made) → IsGivenAt tells Cause start (before ++ made ∷ []) client answer (length before)
+entry_given tells Cause start before made client answer serves =
+    let sum = length-append before (made ∷ []) in
+    let whole : before ≡ take (length before) (before ++ made ∷ []) = sym (take-append_seam before (made ∷ [])) in (
       omega arith,
-      inr (
-        Some (Write_entry client points),
-        subst (λ (h : List Entry). Is_machines tells (state_after start h) client (answer_to request moment (Accepted number) (Some number)) (Some (Write_entry client points))) whole (record {
-          asks = statement.Write points;
-          means = means;
-          points = open_to.points;
-          are_told = open_to.are_told;
-          reply = ap Accepted is ∙ sym (ap (λ (s : Served). s.reply) served);
-          number = refl;
-          entry_made = sym (ap (λ (s : Served). s.entry) served);
-        }),
-        get_seam before (Write_entry client points),
-      ),
+      inr (Some made, subst (λ (h : List Entry). Is_machines tells (state_after start h) client answer (Some made)) whole serves, get_seam before made),
     )
 
--- an entry was made of the batch
+-- An entry was made of the request.
+module _ (old new : Stored) (request : Request) (moment : ℤ) (made : Entry) (number : ℕ) (small : number < 2 ^ 64) (accepts : Accepts made number old.told new.told) (kept : Keeps old.told new.told) (still : new.health ≡ old.health) where
+  abbrev behind : State
+  behind = state_after old.told.start accepts.before
+
+  is_next : number ≡ behind.number + 1
+  is_next =
+      let sum = length-append accepts.before (made ∷ []) in
+      let len = ap length accepts.entry in
+      let given = accepts.given in
+      let starts = ap (λ (s : State). s.number) kept.start in
+      omega arith
+
+  is_below : behind.number < 9223372036854775807
+  is_below = let next = is_next in let limit = accepts.limit in omega arith
+
+  made_step : Is_machines old.told.tells behind old.told.client (answer_to request moment (Accepted number) (Some number)) (Some made)
+      → Step old (answer_to request moment (Accepted number) (Some number)) new
+  made_step serves =
+      let before = accepts.before in
+      let sum = length-append before (made ∷ []) in
+      let len = ap length accepts.entry in
+      let answer : Answer = answer_to request moment (Accepted number) (Some number) in
+      record {
+        kept = kept;
+        out = accepts.out;
+        own = accepts.own;
+        place = length before;
+        from = longer old.told.history before accepts.later;
+        to = omega arith;
+        given = subst (λ (b : Bool). IsGivenAt b (HasCauseAt new.told) new.told.start new.told.history new.told.client answer (length before)) (sym kept.tells)
+            (subst (λ (s : State). IsGivenAt old.told.tells (HasCauseAt new.told) s new.told.history new.told.client answer (length before)) (sym kept.start)
+            (subst (λ (c : ℕ). IsGivenAt old.told.tells (HasCauseAt new.told) old.told.start new.told.history c answer (length before)) (sym kept.client)
+            (subst (λ (h : List Entry). IsGivenAt old.told.tells (HasCauseAt new.told) old.told.start h old.told.client answer (length before)) (sym accepts.entry)
+            (entry_given old.told.tells (HasCauseAt new.told) old.told.start before made old.told.client answer serves))));
+        readable = small;
+        ages = ages_same old.health new.health still;
+        fault = λ same. absurd (no_accepted_fault number same);
+        quiet = λ other. still;
+      }
+    where
+      no_accepted_fault : (number : ℕ) → Accepted number ≡ DeviceFault → ⊥
+      no_accepted_fault number same = cc
+
 pub accepted_step : (old new : Stored) (request : Request) (moment : ℤ) (points : List Point) (number : ℕ) → number < 2 ^ 64 → Means request moment (statement.Write points)
-    → Accepts points number old.told new.told → Keeps old.told new.told → new.health ≡ old.health → Step old (answer_to request moment (Accepted number) (Some number)) new
+    → Accepts (Write_entry old.told.client points) number old.told new.told → Keeps old.told new.told → new.health ≡ old.health
+    → Step old (answer_to request moment (Accepted number) (Some number)) new
 accepted_step old new request moment points number small means accepts kept still =
-    let before = accepts.before in
-    let sum = length-append before (Write_entry old.told.client points ∷ []) in
-    let len = ap length accepts.entry in
-    let given = accepts.given in
-    let limit = accepts.limit in
-    let starts = ap (λ (s : State). s.number) kept.start in
-    let answer : Answer = answer_to request moment (Accepted number) (Some number) in
-    record {
-      kept = kept;
-      out = accepts.out;
-      own = accepts.own;
-      place = length before;
-      from = longer old.told.history before accepts.later;
-      to = omega arith;
-      given = subst (λ (b : Bool). IsGivenAt b (HasCauseAt new.told) new.told.start new.told.history new.told.client answer (length before)) (sym kept.tells)
-          (subst (λ (s : State). IsGivenAt old.told.tells (HasCauseAt new.told) s new.told.history new.told.client answer (length before)) (sym kept.start)
-          (subst (λ (c : ℕ). IsGivenAt old.told.tells (HasCauseAt new.told) old.told.start new.told.history c answer (length before)) (sym kept.client)
-          (subst (λ (h : List Entry). IsGivenAt old.told.tells (HasCauseAt new.told) old.told.start h old.told.client answer (length before)) (sym accepts.entry)
-          (entry_given old.told.tells (HasCauseAt new.told) old.told.start before old.told.client request moment points number means
-          accepts.accepted (omega arith) (omega arith)))));
-      readable = small;
-      ages = ages_same old.health new.health still;
-      fault = λ same. absurd (no_accepted_fault number same);
-      quiet = λ other. still;
-    }
-  where
-    no_accepted_fault : (number : ℕ) → Accepted number ≡ DeviceFault → ⊥
-    no_accepted_fault number same = cc
+    let made : Entry = Write_entry old.told.client points in
+    made_step old new request moment made number small accepts kept still
+    (batch_made old.told.tells (state_after old.told.start accepts.before) old.told.client request moment points number means accepts.accepted
+    (is_next old new request moment made number small accepts kept still) (is_below old new request moment made number small accepts kept still))
+
+pub deleted_step : (old new : Stored) (request : Request) (moment : ℤ) (deletion : Deletion) (number : ℕ) → number < 2 ^ 64 → Means request moment (statement.Delete deletion)
+    → Accepts (Delete_entry old.told.client deletion) number old.told new.told → Keeps old.told new.told → new.health ≡ old.health
+    → Step old (answer_to request moment (Accepted number) (Some number)) new
+deleted_step old new request moment deletion number small means accepts kept still =
+    let made : Entry = Delete_entry old.told.client deletion in
+    made_step old new request moment made number small accepts kept still
+    (deletion_made old.told.tells (state_after old.told.start accepts.before) old.told.client request moment deletion number means
+    (is_next old new request moment made number small accepts kept still) (is_below old new request moment made number small accepts kept still))

@@ -44,4 +44,4 @@ AreParts whole client (part ∷ parts) = IsPart whole client part × AreParts wh
 abbrev pub SessionsCompose : Type 0
 SessionsCompose = (whole : Whole) (parts : List Part) → AreParts whole 0 parts
     → IsPermutation (flat_map (λ part. part.new.told.own) parts) (numbers_from (whole.start.number + 1) whole.history)
-    → ExplainedBut whole.tells (HasCause whole.tells whole.limits whole.series) whole.start whole.history (map (λ part. part.transcript) parts)
+    → ExplainedBut whole.tells (HasCause whole.tells whole.limits whole.series whole.start) whole.start whole.history (map (λ part. part.transcript) parts)

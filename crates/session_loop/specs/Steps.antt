@@ -1,13 +1,15 @@
 -- What does one answer of a session do with its store?
-use Rattle.std.specs.Prelude.{◌≡◌, ◌≢◌, ℕ, ◌+◌, ◌≤◌, ℤ, Bool, false, List, [], ◌∷◌, ◌++◌, length, Option, IsSome, IsSomeAnd, Result, Ok, Err}
+use Rattle.std.specs.Prelude.{◌≡◌, ◌≢◌, ℕ, ◌+◌, ◌<◌, ◌≤◌, ℤ, Bool, IsTrue, false, List, [], ◌∷◌, ◌++◌, length, Option, IfSome, IsSome, IsSomeAnd, Result, Ok, Err}
 use Rattle.std.specs.declared.alloc.AllocError.{AllocError}
 use Rattle.tsdb_types.specs.declared.point.Point.{Point}
 use Rattle.shard_disk.specs.Health.{Health, Ages, Rose}
 use Rattle.point_model.specs.declared.entry.Entry.{Entry}
-use Rattle.store_trait.specs.Told.{Told, Limits, Keeps}
-use Rattle.store_trait.specs.Calls.Write.{PassesCache, PassesSeries}
+use Rattle.point_model.specs.Acceptance.{IsAccepted}
+use Rattle.point_model.specs.Histories.{State, state_after}
+use Rattle.store_trait.specs.Told.{Told, Limits, Keeps, last_number}
+use Rattle.store_trait.specs.Calls.Write.{AreKnown, AreNew, FitsCache, PassesCache, PassesSeries}
 use Rattle.session_model.specs.declared.statement.Statement.{Statement}
-use Rattle.session_model.specs.declared.statement.Statement.TheVariants.{Write, Select}
+use Rattle.session_model.specs.declared.statement.Statement.TheVariants.{Write, Delete, Select, After, Refused as Refuses, NotBuilt as Unbuilt}
 use Rattle.session_model.specs.Lines.{Request}
 use Rattle.session_model.specs.Requests.{Means}
 use Rattle.session_model.specs.Replies.{Reply, text, accepted}
@@ -24,18 +26,45 @@ pub record Stored : Type 0 where
 abbrev pub stored : {S : Type 0} → (S → Told) → (S → Health) → S → Stored
 stored told health store = record { told = told store; health = health store }
 
-module _ (tells : Bool) (limits : Option Limits) (series : ℕ) (before : List Entry) where
-  -- Why a store with these limits gave a reply that is none of the machine's, behind these entries, when it held at most so many
-  -- series. That a device failed is told by the count of the store, and want of memory has no cause.
+-- in this state neither a conflict refuses the batch, where the points are told, nor the last number
+pub record CouldTake (tells : Bool) (state : State) (points : List Point) : Type 0 where
+  pub accepted : IsTrue tells → IsAccepted state.points points
+  pub number : state.number < last_number
+
+-- So many series are held, no fewer than start and history have and not above this count, that the batch's new ones are within the limit.
+pub record FitsHeld (points : List Point) (most_held : ℕ) (history : List Entry) (limits : Limits) : Type 0 where
+  pub held : ℕ
+  pub known : List (List ℕ)
+  pub new : List (List ℕ)
+  pub are_known : AreKnown limits history known
+  pub are_new : AreNew points limits history new
+  pub no_fewer : length known ≤ held
+  pub are_held : held ≤ most_held
+  pub fits : held + length new ≤ limits.most_series
+
+module _ (tells : Bool) (limits : Option Limits) (series : ℕ) (start : State) (before : List Entry) where
+  -- A device of the store may fail at this behind these entries since its start: a batch that neither a conflict, the last number nor a limit
+  -- need have refused, a deletion below the last number, or a SELECT.
+  abbrev pub CouldFail : Statement → Type 0
+  CouldFail (Write points) = CouldTake tells (state_after start before) points × IfSome limits (FitsHeld points series before) × IfSome limits (FitsCache points)
+  CouldFail (Delete deletion) = (state_after start before).number < last_number
+  CouldFail (Select field measurement) = Unit {0}
+  CouldFail (After number) = ⊥
+  CouldFail (Refuses refusal) = ⊥
+  CouldFail Unbuilt = ⊥
+
+  -- Why a store with these limits gave a reply that is none of the machine's, behind these entries since its start, when it held at
+  -- most so many series. That a device failed is also told by the count of the store; want of memory has no cause.
   abbrev pub ReplyHasCause : Answer → Reply → Type 0
   ReplyHasCause answer OutOfMemory = Unit {0}
-  ReplyHasCause answer DeviceFault = Unit {0}
+  ReplyHasCause answer DeviceFault = (asks : Statement) × Means answer.request answer.moment asks × CouldFail asks
   ReplyHasCause answer (Damaged file offset) = (field measurement : List ℕ) × Means answer.request answer.moment (Select field measurement)
       × IsSome limits × (tells ≡ false)
   ReplyHasCause answer (CacheFull held) = (points : List Point) × Means answer.request answer.moment (Write points)
+      × CouldTake tells (state_after start before) points × IfSome limits (FitsHeld points series before)
       × IsSomeAnd limits (PassesCache points held before)
   ReplyHasCause answer (SeriesFull held) = (points : List Point) × Means answer.request answer.moment (Write points)
-      × IsSomeAnd limits (PassesSeries points held series before)
+      × CouldTake tells (state_after start before) points × IsSomeAnd limits (PassesSeries points held series before)
   ReplyHasCause answer (Accepted number) = ⊥
   ReplyHasCause answer (Found number tables) = ⊥
   ReplyHasCause answer (Reached number) = ⊥
@@ -50,7 +79,7 @@ module _ (tells : Bool) (limits : Option Limits) (series : ℕ) (before : List E
 
 -- the same with what a store tells
 abbrev pub HasCauseAt : Told → List Entry → Answer → Type 0
-HasCauseAt told before answer = HasCause told.tells told.limits told.series before answer
+HasCauseAt told before answer = HasCause told.tells told.limits told.series told.start before answer
 
 -- the answer takes its place in the history behind what the store knew before
 pub record Step (old : Stored) (answer : Answer) (new : Stored) : Type 0 where

@@ -2,6 +2,8 @@
 use Rattle.std.specs.Prelude.{◌≡◌, ◌⊎◌, ℕ, List, Option, Some, None, Result, Ok, Err}
 use Rattle.store_trait.specs.declared.fault.WriteFault.{WriteFault}
 use Rattle.store_trait.specs.declared.fault.WriteFault.TheVariants as fault
+use Rattle.store_trait.specs.declared.fault.DeleteFault.{DeleteFault}
+use Rattle.store_trait.specs.declared.fault.DeleteFault.TheVariants as delete_fault
 use Rattle.point_model.specs.declared.fault.CursorFault.{CursorFault}
 use Rattle.point_model.specs.declared.fault.CursorFault.TheVariants as cursor_fault
 use Rattle.point_model.specs.Rows.{Row}
@@ -46,6 +48,17 @@ number_in (fault.SeriesFull held) = None
 number_in (fault.CacheFull held) = None
 number_in fault.Memory = None
 number_in fault.Fault = None
+
+-- the same of a deletion
+abbrev pub reply_to_deletion : DeleteFault → Reply
+reply_to_deletion delete_fault.HistoryFull = HistoryFull
+reply_to_deletion delete_fault.Memory = OutOfMemory
+reply_to_deletion delete_fault.Fault = DeviceFault
+
+abbrev pub number_of_refusal : DeleteFault → Option ℕ
+number_of_refusal delete_fault.HistoryFull = Some 9223372036854775807
+number_of_refusal delete_fault.Memory = None
+number_of_refusal delete_fault.Fault = None
 
 -- the reply to a SELECT whose view gave these rows of the field, as they are seen, or failed
 abbrev pub reply_of_view : {X : Type 0} → (X → List Row) → ℕ → List ℕ → List ℕ → Result X CursorFault → Reply

@@ -2,7 +2,7 @@
 ghost use Rattle.std.specs.Prelude.{◌≡◌, ◌++◌, ℕ, ℤ, List, IfOk, codes};
 ghost use Rattle.std.specs.Str.{IsUtf8};
 ghost use Rattle.session_model.specs.Lines.Request.{Line, Batch};
-ghost use Rattle.session_model.specs.Requests.{Means, LineSays, SelectSays, TextSays};
+ghost use Rattle.session_model.specs.Requests.{Means, LineSays, SelectSays, TextSays, WordsSay};
 ghost use Rattle.session_loop.specs.LineAsItComes.{StandsFor};
 ghost use Rattle.session_loop.specs.Gathered.{Gathers};
 ghost use Rattle.session_loop.specs.Asked.{IsWritableStatement, TextOrNoneSays};
@@ -10,6 +10,7 @@ ghost use Rattle.session_loop.specs.Asked.{IsWritableStatement, TextOrNoneSays};
 use crate::gathering::{Gathering, Unread};
 use crate::pieces::{behind, cut};
 use crate::words::{after_number, inserted_line, word};
+use influxql_parser::{ReadFault, deletions_begin, read_deletion};
 use line_protocol::{LineFault, read_batch};
 use session_model::{Refusal, Statement};
 use std::alloc::{AllocError, Global};
@@ -29,7 +30,7 @@ pub fn read_line(alloc: Global, line: &[u8], moment: Time) -> Result<Statement, 
     }
     match str::from_utf8(line) {
         Err(_) => Ok(Statement::Refused(Refusal::NotText)),
-        Ok(_) => read_words(alloc, line, moment),
+        Ok(text) => read_words(alloc, text, moment),
     }
 }
 
@@ -62,18 +63,33 @@ fn read_text(alloc: Global, text: &[u8], moment: Time) -> Result<Statement, Allo
 }
 
 /// What the words of a line ask for.
-fn read_words(alloc: Global, line: &[u8], moment: Time) -> Result<Statement, AllocError>
-    requires { IsUtf8 line.now }
+fn read_words(alloc: Global, line: &str, moment: Time) -> Result<Statement, AllocError>
     ensures means { IfOk result (LineSays line.now moment) }
     ensures writable { IfOk result IsWritableStatement }
 {
-    if let Some(text) = inserted_line(line) {
+    if let Some(text) = inserted_line(line.as_bytes()) {
         return read_protocol(alloc, text, moment);
     }
-    if let Some(wanted) = after_number(line) {
+    if let Some(wanted) = after_number(line.as_bytes()) {
         return Ok(Statement::After(wanted));
     }
-    read_select(alloc, line)
+    read_statement(alloc, line, moment)
+}
+
+/// What a line asks for that is no INSERT, no BATCH and no AFTER.
+fn read_statement(alloc: Global, line: &str, moment: Time) -> Result<Statement, AllocError>
+    ensures means { IfOk result (WordsSay line.now moment) }
+    ensures writable { IfOk result IsWritableStatement }
+{
+    deletions_begin();
+    match read_deletion(alloc, line, moment.get()) {
+        Ok(Some(deletion)) => Ok(Statement::Delete(deletion)),
+        Ok(None) => read_select(alloc, line.as_bytes()),
+        Err(ReadFault::Syntax) => Ok(Statement::Refused(Refusal::Syntax)),
+        Err(ReadFault::TimeInOr) => Ok(Statement::Refused(Refusal::TimeInOr)),
+        Err(ReadFault::NumberRange) => Ok(Statement::Refused(Refusal::NumberRange)),
+        Err(ReadFault::Memory) => Err(AllocError),
+    }
 }
 
 /// What a text of line protocol asks for.
@@ -91,7 +107,7 @@ fn read_protocol(alloc: Global, text: &[u8], moment: Time) -> Result<Statement, 
     }
 }
 
-/// What a line asks for that is no INSERT, no BATCH and no AFTER.
+/// What a line asks for that begins as none of these, and as no deletion.
 fn read_select(alloc: Global, line: &[u8]) -> Result<Statement, AllocError>
     ensures means { IfOk result (SelectSays line.now) }
     ensures writable { IfOk result IsWritableStatement }

@@ -141,6 +141,9 @@ impl ReplyText {
             Refusal::LineTooLong => self.short(b"error S1 LineTooLong\n"),
             Refusal::BatchCut => self.short(b"error S2 BatchCut\n"),
             Refusal::NotText => self.short(b"error S3 NotText\n"),
+            Refusal::Syntax => self.short(b"error Q1 Syntax\n"),
+            Refusal::TimeInOr => self.short(b"error Q2 TimeInOr\n"),
+            Refusal::NumberRange => self.short(b"error Q3 NumberRange\n"),
             Refusal::Protocol { code, line } => self.refused_line(code, line),
         }
     }

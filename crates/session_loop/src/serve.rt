@@ -1,18 +1,21 @@
 //! What a store gives to a request, and the text of the reply.
 ghost use Rattle.std.specs.Prelude.{◌≡◌, [], IfOk};
 ghost use Rattle.point_model.specs.Acceptance.{IsWritable};
-ghost use Rattle.session_model.specs.declared.statement.Statement.TheVariants.{Write, After};
+ghost use Rattle.point_model.specs.Deletions.{IsLoggable};
+ghost use Rattle.session_model.specs.declared.statement.Statement.TheVariants.{Write, Delete, After};
 ghost use Rattle.session_model.specs.Readable.{IsReadable};
+ghost use Rattle.session_model.specs.Replies.{text as text_of};
 ghost use Rattle.session_loop.specs.Asked.{IsWritableStatement};
-ghost use Rattle.session_loop.specs.Texts.{IsTextOf, reply_to, number_in};
+ghost use Rattle.session_loop.specs.Texts.{IsTextOf, reply_to, number_in, reply_to_deletion, number_of_refusal};
 ghost use Rattle.session_loop.specs.Steps.{Serves, ServesRead, stored};
 
 use crate::replies::ReplyText;
 use crate::select::select;
+use point_model::Deletion;
 use session_io::Gate;
 use session_model::Statement;
 use std::alloc::{AllocError, Global};
-use store_trait::{Store, WriteFault};
+use store_trait::{DeleteFault, Store, WriteFault};
 use tsdb_types::Batch;
 
 /// The last number that an entry may have.
@@ -57,6 +60,7 @@ fn serve<S: Store, G: Gate>(
 {
     match asked {
         Statement::Write(batch) => write(store, &batch, text),
+        Statement::Delete(deletion) => delete(store, &deletion, text),
         Statement::Select { field, measurement } => {
             select(alloc, store, gate, who, &field, measurement, text)
         }
@@ -119,6 +123,42 @@ fn refused(fault: &WriteFault, text: &mut ReplyText) -> Option<u64>
             None
         }
         WriteFault::Fault => {
+            text.device_fault();
+            None
+        }
+    }
+}
+
+fn delete<S: Store>(store: &mut S, deletion: &Deletion, text: &mut ReplyText) -> Option<u64>
+    requires none_out { (S.told store.old).out ≡ [] }
+    requires loggable { IsLoggable deletion.now }
+    ensures served { Serves (stored S.told S.health store.old) (Delete deletion.now) text.new result (stored S.told S.health store.new) }
+    ensures none_out { (S.told store.new).out ≡ [] }
+{
+    match store.delete(deletion) {
+        Ok(entry) => {
+            text.accepted(entry);
+            Some(entry)
+        }
+        Err(fault) => not_deleted(fault, text),
+    }
+}
+
+/// Writes the text of the reply to a deletion that the store refused so, and gives the number that this tells.
+fn not_deleted(fault: DeleteFault, text: &mut ReplyText) -> Option<u64>
+    ensures text { text.new ≡ text_of (reply_to_deletion fault) }
+    ensures number { result ≡ number_of_refusal fault }
+{
+    match fault {
+        DeleteFault::HistoryFull => {
+            text.history_full();
+            Some(LAST_NUMBER)
+        }
+        DeleteFault::Memory => {
+            text.out_of_memory();
+            None
+        }
+        DeleteFault::Fault => {
             text.device_fault();
             None
         }

@@ -9,7 +9,7 @@ use Rattle.point_model.specs.Points.{Points}
 use Rattle.point_model.specs.Acceptance.{Conflict, conflict}
 use Rattle.point_model.specs.declared.entry.Entry.{Entry}
 use Rattle.point_model.specs.Histories.{State, state_after}
-use Rattle.point_model.specs.declared.entry.Entry.TheVariants.{Write as Write_entry}
+use Rattle.point_model.specs.declared.entry.Entry.TheVariants.{Write as Write_entry, Delete as Delete_entry}
 use Rattle.point_model.proofs.HistoryLemmas.{state_after-append, state_after-nil}
 use Rattle.session_model.specs.declared.statement.Statement.{Statement}
 use Rattle.session_model.specs.declared.statement.Statement.TheVariants as statement
@@ -31,17 +31,17 @@ unfoldable pub Cases : ℕ → Reply → Option Entry → Type 0
 Cases number reply entry = ((entry ≡ None) × (accepted reply ≡ []))
     ⊎ ((made : Entry) × (entry ≡ Some made) × (accepted reply ≡ (number + 1) ∷ []))
 
-room_cases : (room : Bool) (number client : ℕ) (points : List Point) →
-    (let served : Served = if room then record { reply = Accepted (number + 1); entry = Some (Write_entry client points) } else record { reply = HistoryFull; entry = None } in
+room_cases : (room : Bool) (number : ℕ) (made : Entry) →
+    (let served : Served = if room then record { reply = Accepted (number + 1); entry = Some made } else record { reply = HistoryFull; entry = None } in
     Cases number served.reply served.entry)
 unfolding Cases
-room_cases true number client points = inr (Write_entry client points, refl, refl)
-room_cases false number client points = inl (refl, refl)
+room_cases true number made = inr (made, refl, refl)
+room_cases false number made = inl (refl, refl)
 
 batch_cases : (number client : ℕ) (points : List Point) (found : Option Conflict) →
     Cases number (serve_batch number client points found).reply (serve_batch number client points found).entry
 unfolding Cases
-batch_cases number client points None = room_cases (nat_lt number 9223372036854775807) number client points
+batch_cases number client points None = room_cases (nat_lt number 9223372036854775807) number (Write_entry client points)
 batch_cases number client points (Some found) = inl (refl, refl)
 
 after_cases : (reached : Bool) (number : ℕ) → accepted (if reached then Reached number else NotReached number) ≡ []
@@ -52,6 +52,7 @@ serve_cases : (points : Points) (number client : ℕ) (asks : Statement) →
     Cases number (serve points number client asks).reply (serve points number client asks).entry
 unfolding Cases
 serve_cases points number client (statement.Write batch) = batch_cases number client batch (conflict points batch)
+serve_cases points number client (statement.Delete deletion) = room_cases (nat_lt number 9223372036854775807) number (Delete_entry client deletion)
 serve_cases points number client (statement.Select field measurement) = inl (refl, refl)
 serve_cases points number client (statement.After wanted) = inl (refl, after_cases (nat_le wanted number) number)
 serve_cases points number client (statement.Refused refusal) = inl (refl, refl)

@@ -1,5 +1,5 @@
 -- A reply is told from the beginning of its text.
-use Rattle.std.proofs.Common.{◌≡◌, ◌<◌, ◌^◌, ℕ, Bool, true, false, not, ◌&&◌, List, [], ◌∷◌, ◌++◌, length, refl, ap, sym, subst, ◌∙◌, arith, All, append_assoc, codes, get_or, ◌==◌, ◌⊎◌, inl, inr, if◌then◌else◌}
+use Rattle.std.proofs.Common.{◌≡◌, ◌<◌, ◌+◌, ◌^◌, ℕ, Bool, true, false, not, ◌&&◌, ◌||◌, List, [], ◌∷◌, ◌++◌, length, refl, ap, sym, subst, ◌∙◌, arith, All, append_assoc, codes, get_or, ◌==◌, ◌⊎◌, inl, inr, if◌then◌else◌}
 use Rattle.std.specs.List.{flat_map}
 use Rattle.std.specs.Fmt.{decimal}
 use Rattle.std.proofs.lemmas.List.{append-nil, append_cancel_left}
@@ -10,7 +10,7 @@ use Rattle.tsdb_types.specs.declared.value.Kind.TheVariants.{Integer, Unsigned, 
 use Rattle.line_protocol.specs.declared.fault.LineCode.{LineCode}
 use Rattle.line_protocol.specs.declared.fault.LineCode.TheVariants as code
 use Rattle.session_model.specs.declared.statement.Refusal.{Refusal}
-use Rattle.session_model.specs.declared.statement.Refusal.TheVariants.{Protocol, LineTooLong, BatchCut, NotText}
+use Rattle.session_model.specs.declared.statement.Refusal.TheVariants.{Protocol, LineTooLong, BatchCut, NotText, Syntax, TimeInOr, NumberRange}
 use Rattle.session_model.specs.Replies.{Table, Reply, name_text, kind_text, code_text, place_text, refusal_text, first_line, more_lines, text}
 use Rattle.session_model.specs.Replies.Reply.{Accepted, Found, Reached, NotReached, NotBuilt, Refused, TypeConflict, HistoryFull, OutOfMemory, DeviceFault, Damaged, CacheFull, SeriesFull}
 use Rattle.session_model.specs.Readable.{Lacks, IsReadable, IsReadableRefusal}
@@ -136,10 +136,13 @@ refusal_lacks (Protocol code line) readable = lacks-append 10 (code_text code) (
 refusal_lacks LineTooLong readable = refl
 refusal_lacks BatchCut readable = refl
 refusal_lacks NotText readable = refl
+refusal_lacks Syntax readable = refl
+refusal_lacks TimeInOr readable = refl
+refusal_lacks NumberRange readable = refl
 
 -- which refusal it is, by the first two bytes
 abbrev refusal_kind : List ℕ → ℕ
-refusal_kind line = if get_or line 0 0 == 76 then 0 else get_or line 1 0
+refusal_kind line = if get_or line 0 0 == 76 then 0 else if get_or line 0 0 == 81 then 10 + get_or line 1 0 else get_or line 1 0
 
 protocol_kind : (code : LineCode) (behind : List ℕ) → refusal_kind (code_text code ++ behind) ≡ 0
 unfolding code_text
@@ -165,12 +168,18 @@ rank_of_refusal (Protocol code line) = 0
 rank_of_refusal LineTooLong = 49
 rank_of_refusal BatchCut = 50
 rank_of_refusal NotText = 51
+rank_of_refusal Syntax = 59
+rank_of_refusal TimeInOr = 60
+rank_of_refusal NumberRange = 61
 
 refusal_ranked : (refusal : Refusal) → refusal_kind (refusal_text refusal) ≡ rank_of_refusal refusal
 refusal_ranked (Protocol code line) = protocol_kind code (place_text line)
 refusal_ranked LineTooLong = refl
 refusal_ranked BatchCut = refl
 refusal_ranked NotText = refl
+refusal_ranked Syntax = refl
+refusal_ranked TimeInOr = refl
+refusal_ranked NumberRange = refl
 
 -- numbers that a test tells apart
 unequal : (m n : ℕ) → (m == n) ≡ false → m ≡ n → ⊥
@@ -186,6 +195,9 @@ one_refusal (Protocol code line) (Protocol code' line') first second same =
 one_refusal LineTooLong LineTooLong first second same = refl
 one_refusal BatchCut BatchCut first second same = refl
 one_refusal NotText NotText first second same = refl
+one_refusal Syntax Syntax first second same = refl
+one_refusal TimeInOr TimeInOr first second same = refl
+one_refusal NumberRange NumberRange first second same = refl
 one_refusal a b first second same = absurd (refusals_apart a b refl same)
 
 -- The first line of a reply.
@@ -226,7 +238,7 @@ first_lacks (SeriesFull held) readable = lacks-append 10 (codes "error E6 Series
 
 -- which reply it is, by the bytes of its first line; the letters of refusals are one
 abbrev error_kind : ℕ → ℕ → ℕ
-error_kind letter digit = if letter == 69 then digit else if letter == 83 then 76 else letter
+error_kind letter digit = if letter == 69 then digit else if (letter == 83) || (letter == 81) then 76 else letter
 
 abbrev reply_kind : List ℕ → ℕ
 reply_kind line = if get_or line 0 0 == 101 then error_kind (get_or line 6 0) (get_or line 7 0) else get_or line 0 0
@@ -255,6 +267,9 @@ refusal_kinds (Protocol code line) = refused_kind code (place_text line)
 refusal_kinds LineTooLong = refl
 refusal_kinds BatchCut = refl
 refusal_kinds NotText = refl
+refusal_kinds Syntax = refl
+refusal_kinds TimeInOr = refl
+refusal_kinds NumberRange = refl
 
 abbrev rank : Reply → ℕ
 rank (Accepted number) = 111

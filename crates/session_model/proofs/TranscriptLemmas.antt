@@ -11,7 +11,7 @@ use Rattle.point_model.specs.Points.{Points}
 use Rattle.point_model.specs.Acceptance.{Conflict, conflict}
 use Rattle.point_model.specs.declared.entry.Entry.{Entry}
 use Rattle.point_model.specs.Histories.{State}
-use Rattle.point_model.specs.declared.entry.Entry.TheVariants.{Write as Write_entry}
+use Rattle.point_model.specs.declared.entry.Entry.TheVariants.{Write as Write_entry, Delete as Delete_entry}
 use Rattle.session_model.specs.declared.statement.Statement.{Statement}
 use Rattle.session_model.specs.declared.statement.Statement.TheVariants as statement
 use Rattle.session_model.specs.Lines.{Request}
@@ -107,25 +107,25 @@ places_meant tells start history client least [] h = All-nil Meant
 places_meant tells start history client least (a ∷ answers) h =
     All-cons Meant a answers (given_meant tells start history client a h.0 h.2) (places_meant tells start history client (h.0 + length (accepted a.reply)) answers h.3)
 
-no_reached_room : (room : Bool) (number client n : ℕ) (points : List Point) →
-    (let served : Served = if room then record { reply = Accepted (number + 1); entry = Some (Write_entry client points) } else record { reply = HistoryFull; entry = None } in
+no_reached_room : (room : Bool) (number n : ℕ) (made : Entry) →
+    (let served : Served = if room then record { reply = Accepted (number + 1); entry = Some made } else record { reply = HistoryFull; entry = None } in
     served.reply ≡ Reached n) → ⊥
-no_reached_room true number client n points same = cc same
-no_reached_room false number client n points same = cc same
+no_reached_room true number n made same = cc same
+no_reached_room false number n made same = cc same
 
 no_reached_batch : (number client n : ℕ) (points : List Point) (found : Option Conflict) → (serve_batch number client points found).reply ≡ Reached n → ⊥
 no_reached_batch number client n points (Some found) same = cc same
-no_reached_batch number client n points None same = no_reached_room (nat_lt number 9223372036854775807) number client n points same
+no_reached_batch number client n points None same = no_reached_room (nat_lt number 9223372036854775807) number n (Write_entry client points) same
 
-no_found_room : (room : Bool) (number client n : ℕ) (points : List Point) (tables : List Table) →
-    (let served : Served = if room then record { reply = Accepted (number + 1); entry = Some (Write_entry client points) } else record { reply = HistoryFull; entry = None } in
+no_found_room : (room : Bool) (number n : ℕ) (made : Entry) (tables : List Table) →
+    (let served : Served = if room then record { reply = Accepted (number + 1); entry = Some made } else record { reply = HistoryFull; entry = None } in
     served.reply ≡ Found n tables) → ⊥
-no_found_room true number client n points tables same = cc same
-no_found_room false number client n points tables same = cc same
+no_found_room true number n made tables same = cc same
+no_found_room false number n made tables same = cc same
 
 no_found_batch : (number client n : ℕ) (points : List Point) (tables : List Table) (found : Option Conflict) → (serve_batch number client points found).reply ≡ Found n tables → ⊥
 no_found_batch number client n points tables (Some found) same = cc same
-no_found_batch number client n points tables None same = no_found_room (nat_lt number 9223372036854775807) number client n points tables same
+no_found_batch number client n points tables None same = no_found_room (nat_lt number 9223372036854775807) number n (Write_entry client points) tables same
 
 no_found_after : (reached : Bool) (number n : ℕ) (tables : List Table) → (if reached then Reached number else NotReached number) ≡ Found n tables → ⊥
 no_found_after true number n tables same = cc same
@@ -134,6 +134,7 @@ no_found_after false number n tables same = cc same
 -- `at n` alone answers an AFTER, and `at n` with tables answers a SELECT
 reached_asks : (points : Points) (number client n : ℕ) (asks : Statement) → (serve points number client asks).reply ≡ Reached n → (wanted : ℕ) × (asks ≡ statement.After wanted)
 reached_asks points number client n (statement.Write batch) same = absurd (no_reached_batch number client n batch (conflict points batch) same)
+reached_asks points number client n (statement.Delete deletion) same = absurd (no_reached_room (nat_lt number 9223372036854775807) number n (Delete_entry client deletion) same)
 reached_asks points number client n (statement.Select field measurement) same = cc same
 reached_asks points number client n (statement.After wanted) same = (wanted, refl)
 reached_asks points number client n (statement.Refused refusal) same = cc same
@@ -142,6 +143,7 @@ reached_asks points number client n statement.NotBuilt same = cc same
 found_asks : (points : Points) (number client n : ℕ) (tables : List Table) (asks : Statement) → (serve points number client asks).reply ≡ Found n tables
     → (field measurement : List ℕ) × (asks ≡ statement.Select field measurement)
 found_asks points number client n tables (statement.Write batch) same = absurd (no_found_batch number client n batch tables (conflict points batch) same)
+found_asks points number client n tables (statement.Delete deletion) same = absurd (no_found_room (nat_lt number 9223372036854775807) number n (Delete_entry client deletion) tables same)
 found_asks points number client n tables (statement.Select field measurement) same = (field, measurement, refl)
 found_asks points number client n tables (statement.After wanted) same = absurd (no_found_after (nat_le wanted number) number n tables same)
 found_asks points number client n tables (statement.Refused refusal) same = cc same

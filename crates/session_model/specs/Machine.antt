@@ -4,7 +4,7 @@ use Rattle.tsdb_types.specs.declared.point.Point.{Point}
 use Rattle.point_model.specs.Points.{Points}
 use Rattle.point_model.specs.declared.entry.Entry.{Entry}
 use Rattle.point_model.specs.Histories.{State, after_entry}
-use Rattle.point_model.specs.declared.entry.Entry.TheVariants.{Write as Write_entry}
+use Rattle.point_model.specs.declared.entry.Entry.TheVariants.{Write as Write_entry, Delete as Delete_entry}
 use Rattle.point_model.specs.Acceptance.{Conflict, conflict}
 use Rattle.point_model.specs.Rows.{Row, rows_of}
 use Rattle.session_model.specs.declared.statement.Statement.{Statement}
@@ -27,16 +27,21 @@ pub record Served : Type 0 where
   pub reply : Reply
   pub entry : Option Entry
 
--- what the machine gives to a batch that may be accepted; no entry has a greater number than the last of 63 bits
+-- what the machine gives to one that would make this entry; no entry has a greater number than the last of 63 bits
+abbrev pub serve_entry : ℕ → Entry → Served
+serve_entry number entry =
+    if nat_lt number 9223372036854775807 then record { reply = Accepted (number + 1); entry = Some entry }
+    else record { reply = HistoryFull; entry = None }
+
+-- what the machine gives to a batch that is in this conflict with the points, or in none
 abbrev pub serve_batch : ℕ → ℕ → List Point → Option Conflict → Served
 serve_batch number client points (Some found) = record { reply = TypeConflict found.field found.held number; entry = None }
-serve_batch number client points None =
-    if nat_lt number 9223372036854775807 then record { reply = Accepted (number + 1); entry = Some (Write_entry client points) }
-    else record { reply = HistoryFull; entry = None }
+serve_batch number client points None = serve_entry number (Write_entry client points)
 
 -- what the machine gives to a client that asks for this, at these points and this number
 abbrev pub serve : Points → ℕ → ℕ → Statement → Served
 serve points number client (statement.Write batch) = serve_batch number client batch (conflict points batch)
+serve points number client (statement.Delete deletion) = serve_entry number (Delete_entry client deletion)
 serve points number client (statement.Select field measurement) =
     record { reply = Found number (tables_of measurement field (rows_of measurement field points)); entry = None }
 serve points number client (statement.After wanted) =

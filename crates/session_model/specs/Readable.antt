@@ -2,7 +2,7 @@
 use Rattle.std.specs.Prelude.{◌≡◌, ℕ, ◌<◌, ◌^◌, ℤ, pos, negsuc, true, not, ◌==◌, List, All}
 use Rattle.std.specs.List.{list_all}
 use Rattle.session_model.specs.declared.statement.Refusal.{Refusal}
-use Rattle.session_model.specs.declared.statement.Refusal.TheVariants.{Protocol, LineTooLong, BatchCut, NotText}
+use Rattle.session_model.specs.declared.statement.Refusal.TheVariants.{Protocol, LineTooLong, BatchCut, NotText, Syntax, TimeInOr, NumberRange}
 use Rattle.session_model.specs.Replies.{Shown, ShownRow, Table, Reply}
 use Rattle.session_model.specs.Replies.Shown.{Number, Truth}
 use Rattle.session_model.specs.Replies.Reply.{Accepted, Found, Reached, NotReached, NotBuilt, Refused, TypeConflict, HistoryFull, OutOfMemory, DeviceFault, Damaged, CacheFull, SeriesFull}
@@ -33,6 +33,9 @@ IsReadableRefusal (Protocol code line) = line < 2 ^ 64
 IsReadableRefusal LineTooLong = Unit {0}
 IsReadableRefusal BatchCut = Unit {0}
 IsReadableRefusal NotText = Unit {0}
+IsReadableRefusal Syntax = Unit {0}
+IsReadableRefusal TimeInOr = Unit {0}
+IsReadableRefusal NumberRange = Unit {0}
 
 -- its numbers are of 64 bits, and its names stand on one line
 abbrev pub IsReadable : Reply → Type 0

@@ -10,7 +10,7 @@ use Rattle.tsdb_types.specs.declared.value.Value.TheVariants.{Int, Uint, Bool as
 use Rattle.line_protocol.specs.declared.fault.LineCode.{LineCode}
 use Rattle.line_protocol.specs.declared.fault.LineCode.TheVariants as code
 use Rattle.session_model.specs.declared.statement.Refusal.{Refusal}
-use Rattle.session_model.specs.declared.statement.Refusal.TheVariants.{Protocol, LineTooLong, BatchCut, NotText}
+use Rattle.session_model.specs.declared.statement.Refusal.TheVariants.{Protocol, LineTooLong, BatchCut, NotText, Syntax, TimeInOr, NumberRange}
 
 -- what a row shows of a value
 pub data Shown : Type 0 where
@@ -109,6 +109,9 @@ refusal_text (Protocol code line) = code_text code ++ place_text line
 refusal_text LineTooLong = codes "S1 LineTooLong"
 refusal_text BatchCut = codes "S2 BatchCut"
 refusal_text NotText = codes "S3 NotText"
+refusal_text Syntax = codes "Q1 Syntax"
+refusal_text TimeInOr = codes "Q2 TimeInOr"
+refusal_text NumberRange = codes "Q3 NumberRange"
 
 -- the first line of a reply, without its end
 unfoldable pub first_line : Reply → List ℕ

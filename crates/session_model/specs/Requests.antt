@@ -1,14 +1,16 @@
 -- What does a request say, and when is it refused before any point is looked at?
-use Rattle.std.specs.Prelude.{◌≡◌, ℕ, ℤ, ◌+◌, Bool, not, ◌||◌, nat_lt, List, [], ◌∷◌, ◌++◌, length, codes, Option, Some, None, MatchOption, if◌then◌else◌}
+use Rattle.std.specs.Prelude.{◌≡◌, ◌⊎◌, ℕ, ℤ, ◌+◌, Bool, not, ◌||◌, nat_lt, List, [], ◌∷◌, ◌++◌, length, codes, Option, Some, None, MatchOption, if◌then◌else◌}
 use Rattle.std.specs.List.{list_any, flat_map}
 use Rattle.std.specs.Str.{is_utf8}
 use Rattle.std.specs.Str.Lines.{strip_carriage_return}
 use Rattle.line_protocol.specs.declared.fault.LineCode.TheVariants.{BatchTooLong}
 use Rattle.line_protocol.specs.Batches.{Lines, IsFault}
+use Rattle.influxql_parser.specs.declared.fault.ReadFault.TheVariants as read_fault
+use Rattle.influxql_parser.specs.Deletions.{BeginsDeletion, IsDeletion, IsNoDeletion, IsRefused}
 use Rattle.session_model.specs.declared.statement.Refusal.{Refusal}
-use Rattle.session_model.specs.declared.statement.Refusal.TheVariants.{Protocol, LineTooLong, BatchCut, NotText}
+use Rattle.session_model.specs.declared.statement.Refusal.TheVariants.{Protocol, LineTooLong, BatchCut, NotText, Syntax, TimeInOr, NumberRange}
 use Rattle.session_model.specs.declared.statement.Statement.{Statement}
-use Rattle.session_model.specs.declared.statement.Statement.TheVariants.{Write, Select, After, Refused, NotBuilt}
+use Rattle.session_model.specs.declared.statement.Statement.TheVariants.{Write, Delete, Select, After, Refused, NotBuilt}
 use Rattle.session_model.specs.Lines.{Request}
 use Rattle.session_model.specs.Lines.Request.{Line, Batch}
 use Rattle.session_model.specs.Words.{IsWord, inserted_line, after_number}
@@ -61,6 +63,10 @@ TextSays text moment (Refused (Protocol code line)) = IsFault text moment (recor
 TextSays text moment (Refused LineTooLong) = ⊥
 TextSays text moment (Refused BatchCut) = ⊥
 TextSays text moment (Refused NotText) = ⊥
+TextSays text moment (Refused Syntax) = ⊥
+TextSays text moment (Refused TimeInOr) = ⊥
+TextSays text moment (Refused NumberRange) = ⊥
+TextSays text moment (Delete deletion) = ⊥
 TextSays text moment (Select field measurement) = ⊥
 TextSays text moment (After number) = ⊥
 TextSays text moment NotBuilt = ⊥
@@ -70,14 +76,34 @@ abbrev pub SelectSays : List ℕ → Statement → Type 0
 SelectSays line (Select field measurement) = SaysSelect line field measurement
 SelectSays line NotBuilt = (field measurement : List ℕ) → ¬ (SaysSelect line field measurement)
 SelectSays line (Write points) = ⊥
+SelectSays line (Delete deletion) = ⊥
 SelectSays line (After number) = ⊥
 SelectSays line (Refused refusal) = ⊥
+
+-- a DELETE or a DROP says its deletion at this moment, or is refused for its one cause
+abbrev pub DeletionSays : List ℕ → ℤ → Statement → Type 0
+DeletionSays line moment (Delete deletion) = IsDeletion line moment deletion
+DeletionSays line moment (Refused Syntax) = IsNoDeletion line moment
+DeletionSays line moment (Refused TimeInOr) = IsRefused line moment read_fault.TimeInOr
+DeletionSays line moment (Refused NumberRange) = IsRefused line moment read_fault.NumberRange
+DeletionSays line moment (Refused (Protocol code number)) = ⊥
+DeletionSays line moment (Refused LineTooLong) = ⊥
+DeletionSays line moment (Refused BatchCut) = ⊥
+DeletionSays line moment (Refused NotText) = ⊥
+DeletionSays line moment (Write points) = ⊥
+DeletionSays line moment (Select field measurement) = ⊥
+DeletionSays line moment (After number) = ⊥
+DeletionSays line moment NotBuilt = ⊥
+
+-- a line whose first word is DELETE or DROP says what it says as one; each other says the one SELECT, or nothing that is built
+abbrev pub WordsSay : List ℕ → ℤ → Statement → Type 0
+WordsSay line moment statement = (BeginsDeletion line × DeletionSays line moment statement) ⊎ ((¬ (BeginsDeletion line)) × SelectSays line statement)
 
 -- a line says an INSERT, an AFTER, or what its words say
 abbrev pub LineSays : List ℕ → ℤ → Statement → Type 0
 LineSays line moment statement =
     MatchOption (inserted_line line)
-    (MatchOption (after_number line) (SelectSays line statement) (λ number. statement ≡ After number))
+    (MatchOption (after_number line) (WordsSay line moment statement) (λ number. statement ≡ After number))
     (λ text. TextSays text moment statement)
 
 abbrev pub Says : Request → ℤ → Statement → Type 0

@@ -13,6 +13,7 @@ pub fn requests_mean_one()
     ensures { RequestsMeanOne }
 {
     line_protocol::one_reading();
+    influxql_parser::one_deletion();
 }
 
 /// What a client is answered by the machine, one request after another, has a history that explains it.

@@ -1,4 +1,5 @@
 use line_protocol::LineCode;
+use point_model::Deletion;
 use tsdb_types::{Batch, Name};
 
 /// Why a request is refused before any point is looked at.
@@ -12,6 +13,12 @@ pub enum Refusal {
     BatchCut,
     /// A line is no UTF-8.
     NotText,
+    /// A statement has no reading by the grammar.
+    Syntax,
+    /// It has one, in which a comparison of time stands under an OR.
+    TimeInOr,
+    /// It has one with a number, a duration or a moment out of range.
+    NumberRange,
 }
 
 /// What a request asks for.
@@ -19,6 +26,8 @@ pub enum Refusal {
 pub enum Statement {
     /// Writes the points of a batch.
     Write(Batch),
+    /// Takes points of a measurement away.
+    Delete(Deletion),
     /// Reads a field of a measurement, over all its series and all times.
     Select { field: Name, measurement: Name },
     /// Asks whether the history has come to this number.

@@ -46,6 +46,33 @@ fn each_request_has_its_reply(rt: HostRuntime) -> Result<(), Fail> {
 }
 
 #[test]
+fn deletions_are_served(rt: HostRuntime) -> Result<(), Fail> {
+    let input =
+        b"BATCH 3\ncpu,host=a v=1i 10\ncpu,host=b v=2i 20\ncpu,host=a v=4i 30\nDELETE FROM cpu WHERE host = 'a' AND time < 30\nSELECT v FROM cpu\n drop series from cpu where host = 'b';\nSELECT v FROM cpu\nDROP MEASUREMENT mem\nDROP MEASUREMENT cpu\nSELECT v FROM cpu\nINSERT cpu v=true 1\nAFTER 6\n";
+    let (report, sink) = served(&rt, &mut PlainStore::new(rt.alloc(), 0), input, &[], &[])?;
+    let wanted =
+        b"ok 1\nok 2\nat 2\nname: cpu\ntime v\n20 2\n30 4\n.\nok 3\nat 3\nname: cpu\ntime v\n30 4\n.\nok 4\nok 5\nat 5\n.\nok 6\nat 6\n";
+    assert_eq!(rt; sink.bytes(), wanted.as_slice());
+    assert_eq!(rt;
+        (report.requests, report.last, report.end),
+        (10, 6, End::Read)
+    );
+    Ok(())
+}
+
+#[test]
+fn deletions_are_refused_for_one_cause(rt: HostRuntime) -> Result<(), Fail> {
+    let input =
+        b"INSERT cpu v=1i 10\nDELETE\nDROP SERIES FROM cpu WHERE time < 30\nDELETE FROM cpu WHERE time < 5 OR time > 9223372036854775808\nDELETE FROM cpu WHERE time > 9223372036854775808\nDELETED FROM cpu\nSELECT v FROM cpu\n";
+    let (report, sink) = served(&rt, &mut PlainStore::new(rt.alloc(), 0), input, &[], &[])?;
+    let wanted =
+        b"ok 1\nerror Q1 Syntax\nerror Q1 Syntax\nerror Q2 TimeInOr\nerror Q3 NumberRange\nerror B1 NotBuilt\nat 1\nname: cpu\ntime v\n10 1\n.\n";
+    assert_eq!(rt; sink.bytes(), wanted.as_slice());
+    assert_eq!(rt; report.last, 1);
+    Ok(())
+}
+
+#[test]
 fn devices_fail(rt: HostRuntime) -> Result<(), Fail> {
     let input = b"INSERT cpu v=1i 10\nINSERT cpu v=2i 20\nINSERT cpu v=3i 30\nSELECT";
     let (report, sink) = served(&rt, &mut PlainStore::new(rt.alloc(), 0), input, &[1], &[])?;

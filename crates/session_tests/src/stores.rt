@@ -157,6 +157,9 @@ fn faults_are_told_in_one_line(rt: HostRuntime) -> Result<(), Fail> {
         ViewFault::TooManyViews { out: 2 },
         DeleteFault::HistoryFull
     )?;
-    assert_eq!(rt; text.as_str(), "4 series are held; 2 views are out; the last number is given");
+    assert_eq!(rt;
+        text.as_str(),
+        "4 series are held; 2 views are out; the last number is given"
+    );
     Ok(())
 }

@@ -3,4 +3,4 @@ use Rattle.session_model.proofs.MeaningLemmas.{meanings_one}
 use Rattle.session_model.proofs.requests_mean_one.Goals as goal
 
 pub returns : goal.returns
-returns c = meanings_one c.one_reading.ensures.batch c.one_reading.ensures.fault c.one_reading.ensures.apart
+returns c = meanings_one c.one_reading.ensures.batch c.one_reading.ensures.fault c.one_reading.ensures.apart c.one_deletion.ensures

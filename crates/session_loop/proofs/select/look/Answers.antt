@@ -62,7 +62,7 @@ returns-in-Err-Fault-clause-served g c =
     let e = c.in-Err-Fault.ensures in
     let told = g.S.Store.told in
     let health = g.S.Store.health in
-    view_refused (stored told health c.args.store.now) (stored told health c.begin_view.new.self) (Selects c.args.field.now c.args.need.now.measurement) c.device_fault.new.self
+    view_refused (stored told health c.args.store.now) (stored told health c.begin_view.new.self) c.args.field.now c.args.need.now.measurement c.device_fault.new.self
     c.device_fault.ensures e.kept e.err e.ages
     (subst (λ (f : ViewFault). ViewHasCause (told c.begin_view.new.self) (health c.args.store.now) (health c.begin_view.new.self) f) c.in-Err-Fault.field-0-is e.refused)
 
