@@ -1,8 +1,6 @@
 -- What a call of an engine makes of what a client's store tells.
-use Rattle.std.proofs.Common.{◌≡◌, ◌∙◌, ℕ, ◌+◌, ◌<◌, ◌≤◌, true, false, List, ◌∷◌, length, reverse, refl, sym, ap, subst, arith, All, Option, None, Some, ⊎_elim}
-use Rattle.std.specs.Str.{bytes_eq}
+use Rattle.std.proofs.Common.{◌≡◌, ◌∙◌, ℕ, ◌+◌, ◌<◌, ◌≤◌, true, false, List, ◌∷◌, length, reverse, refl, sym, ap, subst, arith, All, Option, None, Some}
 use Rattle.std.proofs.lemmas.Bool.{false≢true}
-use Rattle.std.proofs.lemmas.List.Folds.{list_any-append}
 use Rattle.shard_disk.specs.Health.{Failed, Health}
 use Rattle.shard_disk.specs.declared.disk.Disk.{Ghosts}
 use Rattle.tsdb_types.specs.Moments.{IsMoment}
@@ -15,16 +13,21 @@ use Rattle.history_turn.specs.Histories.{StartsWith}
 use Rattle.store_trait.specs.Calls.View.{Begins}
 use Rattle.store_trait.specs.Calls.Write.{IsOpen, FitsSeries, PassesSeries, PassesCache, WriteHasCause}
 use Rattle.store_trait.specs.Told.{Keeps, Told, last_number}
+use Rattle.store_trait.specs.Calls.Delete.{DeleteHasCause}
+use Rattle.store_trait.specs.declared.fault.DeleteFault.{DeleteFault}
+use Rattle.store_trait.specs.declared.fault.DeleteFault.TheVariants as delete_fault
 use Rattle.store_trait.specs.declared.fault.WriteFault.{WriteFault}
 use Rattle.store_trait.specs.declared.fault.WriteFault.TheVariants as fault
+use Rattle.shard_steps.specs.Calls.Delete as deleting
 use Rattle.shard_steps.specs.Calls.View.{Lends}
 use Rattle.shard_steps.specs.Calls.Write as steps
 use Rattle.shard_steps.specs.Series.{is_among}
 use Rattle.shard_steps.specs.Shards.{state_of}
 use Rattle.shard_steps.specs.declared.shard.Shard.{Shard}
 use Rattle.shard_calls.specs.Told.{limits_of}
-use Rattle.shard_calls.proofs.CountLemmas.{all_few, all_texts, are_known, are_new, contains_among, few_left, known_few, known_of, left_true, new_of, or_true, unheld_few}
-use Rattle.shard_calls.proofs.SeriesLemmas.{by_case, texts_in, written_from_among}
+use Rattle.shard_calls.proofs.CountLemmas.{all_few, all_texts, are_known, are_new, few_left, known_few, known_of, new_of, unheld_few}
+use Rattle.shard_calls.proofs.SeriesLemmas.{by_case}
+use Rattle.shard_calls.proofs.StoreLemmas.{within_held}
 use Rattle.shard_shared.specs.Entries.{entries_in, views_lent}
 use Rattle.shard_shared.specs.Reaching.{ComesTo, ComesFrom}
 use Rattle.shard_shared.specs.Told.{is_steady_at, limits_at, state_at}
@@ -100,12 +103,7 @@ module _ {D R W : Type 0} (g : Ghosts D R W) where
   module _ (start : Shard D) (faults client series : ℕ) (points : List Point) (entered : List Entered) (own : List ℕ) (loans : List Lent) (shard : Shard D)
       (was : ComesTo g start faults entered shard) (few : length shard.logs.series.keys ≤ series) where
     within : (text : List ℕ) → is_among (all_texts (limits_of (state_of start) start.logs.series.keys start) (entries_in entered)) text ≡ true → is_among shard.logs.series.keys text ≡ true
-    within text there = ⊎_elim
-        (λ one. ap (λ (l : List (List ℕ)). is_among l text) was.series.from_start ∙ list_any-append (bytes_eq text) start.logs.series.keys was.series.more
-        ∙ left_true (is_among start.logs.series.keys text) (is_among was.series.more text) one)
-        (λ more. contains_among shard.logs.series.keys text (was.series.written text (written_from_among (entries_in entered) text more)))
-        (or_true (is_among start.logs.series.keys text) (is_among (texts_in (entries_in entered)) text)
-        (sym (list_any-append (bytes_eq text) start.logs.series.keys (texts_in (entries_in entered))) ∙ there))
+    within = within_held start.logs.series.keys shard.logs.series.keys (entries_in entered) was.series
 
     is_open : steps.IsOpen points shard → IsOpen points (told_at client series (Some start) entered own loans)
     is_open o = record {
@@ -173,3 +171,13 @@ module _ {D R W : Type 0} (g : Ghosts D R W) where
   cause (Some s) faults client series points entered own loans shard was few before after old new why fails is =
       cause_of s faults client series points entered own loans shard was few before after old new why fails is
   cause None faults client series points entered own loans shard was few before after old new why fails is = absurd was
+
+  -- Why a deletion was refused.
+  pub delete_cause : (start : Option (Shard D)) (faults client series : ℕ) (entered : List Entered) (own : List ℕ) (loans : List Lent) (shard : Shard D) → ComesFrom g start faults entered shard
+      → (before after old new : Health) (why : DeleteFault) → (why ≡ delete_fault.Fault → Failed before after → Failed old new) → deleting.HasCause shard before after why
+      → DeleteHasCause (told_at client series start entered own loans) old new why
+  delete_cause start faults client series entered own loans shard was before after old new delete_fault.HistoryFull fails is =
+      sym (ap (λ (s : State). s.number) (reached start faults entered shard was)) ∙ is
+  delete_cause start faults client series entered own loans shard was before after old new delete_fault.Memory fails is = tt
+  delete_cause start faults client series entered own loans shard was before after old new delete_fault.Fault fails is =
+      (fails refl is.0, subst (λ (s : State). s.number < last_number) (reached start faults entered shard was) is.1)

@@ -12,6 +12,8 @@ use Rattle.history_turn.specs.Views.{adding, holding, resting}
 use Rattle.history_turn.proofs.HistoriesLemmas.{starts_longer, starts_trans}
 use Rattle.store_trait.specs.Calls.View.{Begins, TakesBack}
 use Rattle.store_trait.specs.Told.{Keeps}
+use Rattle.store_trait.specs.declared.fault.DeleteFault.{DeleteFault}
+use Rattle.store_trait.specs.declared.fault.DeleteFault.TheVariants as delete_fault
 use Rattle.store_trait.specs.declared.fault.WriteFault.{WriteFault}
 use Rattle.store_trait.specs.declared.fault.WriteFault.TheVariants as fault
 use Rattle.shard_steps.specs.declared.facts.Facts.{Facts}
@@ -122,3 +124,16 @@ quiet_refusal why other is = fault_isnt why other (ap (λ (r : Result ℕ WriteF
 
 pub quiet_answer : (number : ℕ) → IsErrOf {T = ℕ} (Ok number) fault.Fault → ⊥
 quiet_answer number is = false≢true (ap (λ (r : Result ℕ WriteFault). is_fault (refusal r fault.Memory)) is)
+
+-- whether a refused deletion tells a fault
+abbrev tells_failure : Result ℕ DeleteFault → Bool
+tells_failure (Ok number) = false
+tells_failure (Err delete_fault.HistoryFull) = false
+tells_failure (Err delete_fault.Memory) = false
+tells_failure (Err delete_fault.Fault) = true
+
+pub quiet_deletion : (result : Result ℕ DeleteFault) → tells_failure result ≡ false → IsErrOf result delete_fault.Fault → ⊥
+quiet_deletion result other is = false≢true (sym other ∙ ap (λ (r : Result ℕ DeleteFault). tells_failure r) is)
+
+pub full_isnt_fault : delete_fault.HistoryFull ≡ delete_fault.Fault → ⊥
+full_isnt_fault is = false≢true (ap (λ (why : DeleteFault). tells_failure (Err why)) is)
