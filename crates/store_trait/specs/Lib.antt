@@ -4,6 +4,7 @@ pub mod Laws
 pub mod Lists
 pub mod Notes
 pub mod Plain
+pub mod Removals
 pub mod Slots
 pub mod Tags
 pub mod Told

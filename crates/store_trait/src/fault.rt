@@ -54,7 +54,7 @@ impl<T: Drop> From<AllocFailed<T>> for WriteFault {
     }
 }
 
-/// Why a deletion was refused. At the last number it is always for that.
+/// Why a deletion was refused.
 #[derive(Clone, Copy, Debug, Error, PartialEq, Eq)]
 pub enum DeleteFault {
     /// The last number, 9223372036854775807, is given.

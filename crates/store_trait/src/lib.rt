@@ -8,6 +8,7 @@ mod list_view;
 mod names;
 mod note;
 mod plain;
+mod removal;
 mod room;
 mod samples;
 mod slots;

@@ -3,6 +3,7 @@ ghost use Rattle.std.specs.Prelude.{◌≡◌, ◌<◌, ◌≤◌, [], ◌∷◌
 
 use crate::gather::gather;
 use crate::names::{fields_of, heading_of};
+use crate::removal::{put_samples, removal_of, take_away};
 use crate::room::make_room;
 use crate::samples::{Samples, find_conflict};
 use crate::slots::{Slots, set_values};
@@ -50,7 +51,7 @@ impl PlainStore {
     ghost use Rattle.tsdb_types.specs.Moments.{IsMoment};
     ghost use Rattle.point_model.specs.Acceptance.{conflict, IsAccepted, IsSound, IsWritable};
     ghost use Rattle.point_model.specs.Cursors.{Gives};
-    ghost use Rattle.point_model.specs.declared.entry.Entry.TheVariants.{Write};
+    ghost use Rattle.point_model.specs.declared.entry.Entry.TheVariants.{Write, Delete};
     ghost use Rattle.store_trait.specs.Calls.Entry.{Accepts};
     ghost use Rattle.store_trait.specs.Calls.View.{without};
     ghost use Rattle.store_trait.specs.Plain.{told_of, conflict_of};
@@ -154,6 +155,23 @@ impl PlainStore {
         self.number += 1;
         Ok(self.number)
     }
+
+    // Makes an entry of a deletion.
+    fn remove(&mut self, deletion: &Deletion) -> Result<u64, AllocError>
+        requires { (state_now self.old).number < last_number }
+        ensures ok { IfOk result (λ number. Accepts (Delete self.old.client deletion.now) number self.old self.new) }
+        ensures kept { Keeps self.old self.new }
+        ensures err { OnErr result (self.new ≡ self.old) }
+    {
+        let removal = removal_of(self.alloc, &self.slots, deletion)?;
+        self.notes.reserve(1)?;
+        // Nothing is refused from here on.
+        take_away(&mut self.slots, deletion);
+        put_samples(&mut self.samples, removal);
+        add_note(&mut self.notes, EntryNote::Deleted(Snapshot::of(deletion)));
+        self.number += 1;
+        Ok(self.number)
+    }
 }
 
 impl Store for PlainStore {
@@ -181,8 +199,13 @@ impl Store for PlainStore {
         Ok(number)
     }
 
-    fn delete(&mut self, _deletion: &Deletion) -> Result<u64, DeleteFault> {
-        Err(DeleteFault::Memory)
+    fn delete(&mut self, deletion: &Deletion) -> Result<u64, DeleteFault> {
+        let last = self.last();
+        if last >= LAST_NUMBER {
+            return Err(DeleteFault::HistoryFull);
+        }
+        let number = self.remove(deletion)?;
+        Ok(number)
     }
 
     fn begin_view(&mut self, need: &Need) -> Result<ListView, ViewFault> {

@@ -5,8 +5,8 @@ use Rattle.store_trait.specs.declared.fault.DeleteFault.{DeleteFault}
 use Rattle.store_trait.specs.declared.fault.DeleteFault.TheVariants as fault
 use Rattle.store_trait.specs.Told.{Told, state_now, last_number}
 
--- Why a deletion was refused, by what the store tells afterwards and by its health before and after: exactly at the last
--- number; below it a fault raised the count, and want of memory may come anywhere.
+-- Why a deletion was refused, by what the store tells afterwards and by its health before and after: at the last
+-- number alone; below it a fault that raised the count; and want of memory may come anywhere.
 abbrev pub DeleteHasCause : Told → Health → Health → DeleteFault → Type 0
 DeleteHasCause told old new fault.HistoryFull = (state_now told).number ≡ last_number
 DeleteHasCause told old new fault.Memory = ⊤
