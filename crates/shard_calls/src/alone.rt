@@ -98,7 +98,7 @@ impl<D: EngineDisk, B: Site> Store for Alone<D, B> {
                 add_note(&mut self.notes, EntryNote::Deleted(Snapshot::of(deletion)));
                 Ok(number)
             }
-            Err(fault) => Err(fault),
+            Err(refusal) => Err(refusal),
         }
     }
 

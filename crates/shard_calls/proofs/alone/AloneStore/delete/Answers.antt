@@ -23,12 +23,12 @@ invariant_of-self-in-Err g c =
 
 pub returns-in-Err-clause-refused : goal.returns-in-Err-clause-refused
 returns-in-Err-clause-refused g c =
-    subst (λ (s : Seen). DeleteHasCause (told_of c.self.inside.client g.B.Site.start g.B.Site.series (entries_of c.self.inside.client c.reserve.new.self.items) c.delete.new.shard) s.health (g.D.Disk.health c.delete.new.shard.logs.disk) c.in-Err.fault)
+    subst (λ (s : Seen). DeleteHasCause (told_of c.self.inside.client g.B.Site.start g.B.Site.series (entries_of c.self.inside.client c.reserve.new.self.items) c.delete.new.shard) s.health (g.D.Disk.health c.delete.new.shard.logs.disk) c.in-Err.refusal)
     c.self.view_is
     (subst (λ (l : List EntryNote). DeleteHasCause (told_of c.self.inside.client g.B.Site.start g.B.Site.series (entries_of c.self.inside.client l) c.delete.new.shard)
-    (g.D.Disk.health c.self.inside.shard.logs.disk) (g.D.Disk.health c.delete.new.shard.logs.disk) c.in-Err.fault) (sym c.reserve.ensures.items)
+    (g.D.Disk.health c.self.inside.shard.logs.disk) (g.D.Disk.health c.delete.new.shard.logs.disk) c.in-Err.refusal) (sym c.reserve.ensures.items)
     (delete_cause g.D.Disk g.B.Site.is_sound g.B.Site.start g.B.Site.series c.self.inside.client (entries_of c.self.inside.client c.self.inside.notes.items) c.self.inside.shard c.delete.new.shard
-    c.self.invariant _ _ c.in-Err.fault c.in-Err.ensures.refused))
+    c.self.invariant _ _ c.in-Err.refusal c.in-Err.ensures.refused))
 
 pub invariant_of-self-in-Ok : goal.invariant_of-self-in-Ok
 invariant_of-self-in-Ok g c =
