@@ -1,6 +1,6 @@
 -- A short name and no condition fit a record.
 use Rattle.std.proofs.Common.{sym, subst, arith, rules}
-use Rattle.point_model.specs.Conditions.{Condition, True}
+use Rattle.point_model.specs.Conditions.{Condition}
 use Rattle.point_model.specs.Deletions.{IsLoggable}
 use Rattle.engine_tests.proofs.deletions.short.Goals as goal
 
