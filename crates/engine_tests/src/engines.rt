@@ -110,7 +110,7 @@ fn serve<D: Disk>(alloc: Global, shard: Shard<D>, lines: &[&str]) -> (D, Seen)
 }
 
 /// Writes lines up to the first that is refused, and gives the answer to the last.
-fn put_all<D: Disk>(
+pub(crate) fn put_all<D: Disk>(
     alloc: Global,
     shard: &mut Shard<D>,
     lines: &[&str],
@@ -147,7 +147,7 @@ fn batch(alloc: Global, lines: &str) -> Option<Batch>
 }
 
 /// What the engine shows.
-fn summary<D: Disk>(alloc: Global, shard: &mut Shard<D>) -> Option<Summary>
+pub(crate) fn summary<D: Disk>(alloc: Global, shard: &mut Shard<D>) -> Option<Summary>
     requires ready { IsReady D.Disk shard.old }
     ensures ready { IsReady D.Disk shard.new }
 {

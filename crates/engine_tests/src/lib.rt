@@ -8,6 +8,8 @@ mod crashes;
 #[cfg(test)]
 mod damage;
 #[cfg(test)]
+mod deletions;
+#[cfg(test)]
 mod directories;
 #[cfg(test)]
 mod engines;
