@@ -1,6 +1,5 @@
 //! Runs of `shell` over a directory in memory: what was accepted is there when an image of the directory is opened again.
-use super::{text_of, words_of};
-use crate::{OpenGate, tsmd};
+use crate::runs::{text_of, words_of};
 use mem_disk::MemDisk;
 use session_io::{Client, Closed, MemClock, MemDesk, MemSink, MemSource};
 use std::alloc::{AllocError, Global};
@@ -8,6 +7,7 @@ use std::random::RandomSource;
 use std::sync::Wait;
 use std::test::Fail;
 use std::thread::Threads;
+use tsm_server::{OpenGate, tsmd};
 
 /// What a run answered, printed and replied, and an image of the directory that it left, where it closed one.
 #[derive(Drop)]
