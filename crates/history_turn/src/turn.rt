@@ -18,6 +18,7 @@ use std::alloc::{AllocError, AllocFailed, Global};
 use std::marker::{Brand, Model};
 use std::snapshot::Snapshot;
 use std::sync::Wait;
+use std::time::Duration;
 
 /// The word that is `HELD` while a pass has the turn, and else the faults of the value.
 const TURN: usize = 0;
@@ -26,6 +27,12 @@ const TURN: usize = 0;
 const COUNT: usize = 1;
 
 const HELD: u64 = 18446744073709551615;
+
+/// The low bits of `HELD`, by which a sleeper sees whether the turn is held.
+const HELD_BITS: u32 = 4294967295;
+
+/// A count of faults may have these low bits too: then a sleeper looks again after so many milliseconds.
+const LONGEST_SLEEP: u64 = 10;
 
 const ALL_PARTS: u64 = 4294967296;
 
@@ -139,7 +146,8 @@ impl<V: Counted> Turn<V> {
         pass.faults += faults;
     }
 
-    /// Waits for the turn and takes the value, which `give` has to be handed.
+    /// Waits for the turn and takes the value, which `give` has to be handed. It looks a few times and then sleeps until a turn is given
+    /// back, for ten milliseconds at most before it looks again.
     pub fn take<R: Wait>(&self, rt: &R, pass: &mut Pass<V>) -> Held<V>
         requires turn { pass.old.turn ≡ self.now }
         requires without_turn { pass.old.view.has_turn ≡ false }
@@ -150,7 +158,12 @@ impl<V: Counted> Turn<V> {
             if let Some(held) = self.try_take(pass) {
                 return held;
             }
-            backoff.snooze();
+            if backoff.is_completed() {
+                let longest = Duration::from_millis(LONGEST_SLEEP);
+                self.table.shared.park_timeout(rt, TURN, HELD_BITS, longest);
+            } else {
+                backoff.snooze();
+            }
         }
         unreachable!()
     }
@@ -327,6 +340,7 @@ impl<V: Counted> Turn<V> {
         }
         self.advance::<W>(&mut pass.seat, number);
         self.free::<Z>(&mut pass.seat, faults);
+        self.table.shared.wake_one(TURN);
         if faults > pass.faults_found {
             pass.faults += 1;
         }

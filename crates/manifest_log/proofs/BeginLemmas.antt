@@ -4,11 +4,11 @@ use Rattle.std.specs.Prelude.{IsSomeAnd}
 use Rattle.std.specs.declared.option.Option.TheVariants.{None, Some}
 use Rattle.std.specs.declared.alloc.Global.{Global}
 use Rattle.std.specs.FinMap.{get, keys}
-use Rattle.shard_disk.specs.Crash.{Crashes, Follows, Leaves, Same}
-use Rattle.shard_disk.specs.Directory.{Anything, Appears, ChangesAt, HasFile, IsPresent, MadeOrNot, Step, Vanishes}
+use Rattle.shard_disk.specs.Crash.{Crashes, Leaves, Same}
+use Rattle.shard_disk.specs.Directory.{HasFile, IsPresent}
 use Rattle.shard_disk.specs.Directory.{Directory as Files}
 use Rattle.shard_disk.specs.HandedOut.{HandedOut, SkipsNumbers}
-use Rattle.shard_disk.proofs.Runs.{goes_on, joins, weakens}
+use Rattle.gate_log.specs.Calls.Make.{MakesNone}
 use Rattle.shard_disk.specs.declared.damage.Damage.{Damage}
 use Rattle.gate_log.specs.declared.log.Gate.{Gate}
 use Rattle.gate_log.specs.Damage.{IsDamaged, IsLog, bodies}
@@ -21,68 +21,21 @@ use Rattle.gate_log.proofs.Unique.{found_log, one_log, undamaged}
 use Rattle.manifest_log.specs.declared.change.Change.{Change}
 use Rattle.manifest_log.specs.declared.directory.Directory.{Directory}
 use Rattle.manifest_log.specs.declared.manifest.Manifest.{Manifest}
-use Rattle.manifest_log.specs.Calls.{Begins, BeginsNone, CanBegin, CanFollow}
+use Rattle.manifest_log.specs.Calls.{Begins, CanFollow}
 use Rattle.manifest_log.specs.Edits.{Follows as FollowsIn, empty}
 use Rattle.manifest_log.specs.Reading.{manifest}
 use Rattle.manifest_log.proofs.LookLemmas.{none_there, same_then}
-
--- what changes no other file
-abbrev AnyAt : ℕ → Files → Files → Type 0
-AnyAt number = ChangesAt number Anything
-
-pub any_at : (number : ℕ) (step : Step) (old new : Files) → ChangesAt number step old new → ChangesAt number Anything old new
-any_at number step old new made = record { here = tt; others = made.others }
-
-pub any_same : (number : ℕ) (files : Files) → ChangesAt number Anything files files
-any_same number files = record { here = tt; others = λ n ne. refl }
-
-pub any_then : (number : ℕ) (step more : Step) (old mid new : Files) → ChangesAt number step old mid → ChangesAt number more mid new → ChangesAt number Anything old new
-any_then number step more old mid new first second = record { here = tt; others = λ n ne. second.others n ne ∙ first.others n ne }
-
-pub any_kept : (number : ℕ) (old new : Files) → new ≡ old → ChangesAt number Anything old new
-any_kept number old new same = subst (ChangesAt number Anything old) (sym same) (any_same number old)
-
--- a file that appeared is taken out again
-pub appears_then_vanishes : (number : ℕ) (bytes : List ℕ) (old mid new : Files) → ChangesAt number (Appears bytes) old mid → ChangesAt number Vanishes mid new → ChangesAt number (MadeOrNot Vanishes) old new
-appears_then_vanishes number bytes old mid new first second = record { here = inr second.here; others = λ n ne. second.others n ne ∙ first.others n ne }
-
--- runs that change no other file
-pub any_run : (number : ℕ) (step : Step) (old new : Crashes) → Leaves (ChangesAt number step) old new → Leaves (ChangesAt number Anything) old new
-any_run number step old new run = weakens (ChangesAt number step) (AnyAt number) old new (λ d c now made. any_at number step d c made) run
-
-pub any_run_then : (number : ℕ) (step more : Step) (old mid new : Crashes) → Leaves (ChangesAt number step) old mid → Follows (ChangesAt number more) mid new → Leaves (ChangesAt number Anything) old new
-any_run_then number step more old mid new run call =
-    goes_on (ChangesAt number step) (ChangesAt number more) (AnyAt number) old mid new (λ d c made. any_at number step d c made) (λ d c e first second. any_then number step more d c e first second) run call
-
-pub any_rests : (number : ℕ) (old new : Crashes) → Leaves Same old new → Leaves (ChangesAt number Anything) old new
-any_rests number old new run = weakens Same (AnyAt number) old new (λ d c now same. any_kept number d c same) run
-
-pub same_then_any : (number : ℕ) (old mid new : Crashes) → Leaves Same old mid → Leaves (ChangesAt number Anything) mid new → Leaves (ChangesAt number Anything) old new
-same_then_any number old mid new first second =
-    joins Same (AnyAt number) (AnyAt number) old mid new (λ d c same. any_kept number d c same) (λ d c e same made. subst (λ (x : Files). ChangesAt number Anything x e) same made) first second
-
--- where no file is there and the number of file 0 was passed over, it can't be made
-pub passed_over : (tells : Type 0) (files : Files) (handed : HandedOut) → (tells → keys files ≡ []) → handed.next_number ≢ 0 → CanBegin tells files handed → ⊥
-passed_over tells files handed none passed can = ⊎_elim passed (λ there. none_there files (none there.0) there.1) can
-
-pub begins_none_passed : (tells memory : Type 0) (files files' : Files) (crashes crashes' : Crashes) (handed handed' : HandedOut) → (CanBegin tells files handed → ⊥) → (tells → ChangesAt handed.next_number Anything files files')
-    → (tells → memory → ChangesAt handed.next_number (MadeOrNot Vanishes) files files') → handed'.readers ≡ handed.readers → BeginsNone tells memory files files' crashes crashes' handed handed'
-begins_none_passed tells memory files files' crashes crashes' handed handed' passed others gone readers =
-    record { same = λ can. absurd (passed can); skips = λ can. absurd (passed can); never = λ can. absurd (passed can); others = others; gone = gone; readers = readers }
 
 skips_none : (old new : HandedOut) → new ≡ old → SkipsNumbers old new
 skips_none old new same = subst (SkipsNumbers old) (sym same) (record { no_lower = omega arith; readers = refl; adopted = refl })
 
 -- nothing was done
-pub begins_none_same : (tells memory : Type 0) (files files' : Files) (crashes crashes' : Crashes) (handed handed' : HandedOut) → files' ≡ files → Leaves Same crashes crashes' → handed' ≡ handed
-    → BeginsNone tells memory files files' crashes crashes' handed handed'
-begins_none_same tells memory files files' crashes crashes' handed handed' same run numbers = record {
-  same = λ can. same;
-  skips = λ can. skips_none handed handed' numbers;
-  never = λ can had. record { crash = run; handed_out = numbers };
-  others = λ told. any_kept handed.next_number files files' same;
-  gone = λ told had. subst (ChangesAt handed.next_number (MadeOrNot Vanishes) files) (sym same) (record { here = inl refl; others = λ n ne. refl });
-  readers = ap (λ (h : HandedOut). h.readers) numbers;
+pub makes_none_same : (memory : Type 0) (files files' : Files) (crashes crashes' : Crashes) (handed handed' : HandedOut) → files' ≡ files → Leaves Same crashes crashes' → handed' ≡ handed
+    → MakesNone memory files files' crashes crashes' handed handed'
+makes_none_same memory files files' crashes crashes' handed handed' same run numbers = record {
+  same = same;
+  skips = skips_none handed handed' numbers;
+  never = λ had. record { crash = run; handed_out = numbers };
 }
 
 -- ---- a log without a record
@@ -107,24 +60,16 @@ pub on_err_map : {T E P Q : Type 0} (r : Result T E) → (P → Q) → OnErr r P
 on_err_map (Ok x) f p = tt
 on_err_map (Err e) f p = f p
 
-pub begins_none_then : (tells memory : Type 0) (files mid files' : Files) (crashes between crashes' : Crashes) (handed looked handed' : HandedOut) → mid ≡ files → Leaves Same crashes between → looked ≡ handed
-    → BeginsNone tells memory mid files' between crashes' looked handed' → BeginsNone tells memory files files' crashes crashes' handed handed'
-begins_none_then tells memory files mid files' crashes between crashes' handed looked handed' same run numbers none =
-    let from : BeginsNone tells memory files files' between crashes' handed handed' =
-    subst (λ (h : HandedOut). BeginsNone tells memory files files' between crashes' h handed') numbers (subst (λ (f : Files). BeginsNone tells memory f files' between crashes' looked handed') same none) in
+pub makes_none_then : (memory : Type 0) (files mid files' : Files) (crashes between crashes' : Crashes) (handed looked handed' : HandedOut) → mid ≡ files → Leaves Same crashes between → looked ≡ handed
+    → MakesNone memory mid files' between crashes' looked handed' → MakesNone memory files files' crashes crashes' handed handed'
+makes_none_then memory files mid files' crashes between crashes' handed looked handed' same run numbers none =
+    let from : MakesNone memory files files' between crashes' handed handed' =
+    subst (λ (h : HandedOut). MakesNone memory files files' between crashes' h handed') numbers (subst (λ (f : Files). MakesNone memory f files' between crashes' looked handed') same none) in
     record {
       same = from.same;
       skips = from.skips;
-      never = λ can had. let n = from.never can had in record { crash = same_then crashes between crashes' run n.crash; handed_out = n.handed_out };
-      others = from.others;
-      gone = from.gone;
-      readers = from.readers;
+      never = λ had. let n = from.never had in record { crash = same_then crashes between crashes' run n.crash; handed_out = n.handed_out };
     }
-
--- where no file is there, a manifest that can begin has the next number
-pub can_be_next : (tells : Type 0) (files : Files) (handed looked : HandedOut) → looked ≡ handed → (tells → keys files ≡ []) → CanBegin tells files handed → looked.next_number ≡ 0
-can_be_next tells files handed looked same none can =
-    subst (λ (h : HandedOut). h.next_number ≡ 0) (sym same) (⊎_elim (λ is. is) (λ there. absurd (none_there files (none there.0) there.1)) can)
 
 -- ---- what a manifest that was begun gives to its first edit
 

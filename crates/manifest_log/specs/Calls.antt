@@ -2,10 +2,10 @@
 use Rattle.std.specs.Prelude.{◌≡◌, ◌≢◌, ◌⊎◌, ℕ, ◌≤◌, List, [], length, Option}
 use Rattle.std.specs.FinMap.{keys}
 use Rattle.shard_disk.specs.Crash.{Crashes}
-use Rattle.shard_disk.specs.Directory.{Anything, ChangesAt, HasFile, IsPresent, MadeOrNot, Vanishes}
+use Rattle.shard_disk.specs.Directory.{HasFile, IsPresent}
 use Rattle.shard_disk.specs.Directory.{Directory as Files}
-use Rattle.shard_disk.specs.HandedOut.{HandedOut, SkipsNumbers}
-use Rattle.gate_log.specs.Calls.Make.{Makes, NeverMade}
+use Rattle.shard_disk.specs.HandedOut.{HandedOut}
+use Rattle.gate_log.specs.Calls.Make.{Makes}
 use Rattle.gate_log.specs.Calls.Read.{Reads}
 use Rattle.gate_log.specs.Log.{EndsBy}
 use Rattle.gate_log.specs.Records.{Spells, spelled}
@@ -31,10 +31,6 @@ pub record Finds (tells : Type 0) (found : Manifest) (directory : Directory) (fi
 abbrev pub HasNoReader : HandedOut → Type 0
 HasNoReader handed = (number : ℕ) → handed.readers number ≡ 0
 
--- The manifest's number wasn't passed over: it is the next one, or the file is there.
-abbrev pub CanBegin : Type 0 → Files → HandedOut → Type 0
-CanBegin tells files handed = (handed.next_number ≡ manifest) ⊎ (tells × IsPresent files manifest)
-
 -- file 0 as it is: a log without a record
 pub record GoesOn (tells : Type 0) (begun : Manifest) (files files' : Files) (crashes crashes' : Crashes) (handed handed' : HandedOut) : Type 0 where
   pub there : tells → IsPresent files manifest
@@ -51,16 +47,6 @@ pub record IsNew (tells : Type 0) (begun : Manifest) (files files' : Files) (cra
 -- a manifest without an edit
 abbrev pub Begins : Type 0 → Manifest → Files → Files → Crashes → Crashes → HandedOut → HandedOut → Type 0
 Begins tells begun files files' crashes crashes' handed handed' = GoesOn tells begun files files' crashes crashes' handed handed' ⊎ IsNew tells begun files files' crashes' handed handed'
-
--- Where the manifest's number wasn't passed over the files are as they were, and after want of memory all is, so that another
--- call can go on. Else a fault may leave a file of the next number, and want of memory leaves none. No reader is out more than before.
-pub record BeginsNone (tells memory : Type 0) (files files' : Files) (crashes crashes' : Crashes) (handed handed' : HandedOut) : Type 0 where
-  pub same : CanBegin tells files handed → files' ≡ files
-  pub skips : CanBegin tells files handed → SkipsNumbers handed handed'
-  pub never : CanBegin tells files handed → memory → NeverMade crashes crashes' handed handed'
-  pub others : tells → ChangesAt handed.next_number Anything files files'
-  pub gone : tells → memory → ChangesAt handed.next_number (MadeOrNot Vanishes) files files'
-  pub readers : handed'.readers ≡ handed.readers
 
 -- the log has some edits, as its file reads, which leave a directory that these changes may follow, and then it names a segment
 pub record CanFollow (changes : List Change) (old : Manifest) (files : Files) : Type 0 where

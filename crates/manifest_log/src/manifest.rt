@@ -1,6 +1,6 @@
 ghost use Rattle.std.specs.Prelude.{◌≡◌, ◌∷◌, [], ◌↔◌, Err, IsTrue, IfOk, IfSome, IfNone, IsErrOf, OnErr};
 ghost use Rattle.shard_disk.specs.Crash.{Leaves, Same};
-ghost use Rattle.shard_disk.specs.Directory.{Anything, Appears, ChangesAt, MadeOrNot};
+ghost use Rattle.shard_disk.specs.Directory.{Appears, ChangesAt, MadeOrNot};
 ghost use Rattle.shard_disk.specs.declared.damage.Damage.{Damage};
 
 use crate::look::{Found, look};
@@ -20,10 +20,11 @@ pub struct Manifest {
 
 impl Manifest {
     ghost use Rattle.gate_log.specs.Calls.Append.{Appends};
+    ghost use Rattle.gate_log.specs.Calls.Make.{MakesNone};
     ghost use Rattle.gate_log.specs.Calls.Settle.{Settling};
     ghost use Rattle.gate_log.specs.Faults.{LogHasCause};
     ghost use Rattle.gate_log.specs.Log.{IsInDoubt, IsPlaced};
-    ghost use Rattle.manifest_log.specs.Calls.{Begins, BeginsNone, CanBegin, Finds, HasNoReader, MayFollow};
+    ghost use Rattle.manifest_log.specs.Calls.{Begins, Finds, MayFollow};
     ghost use Rattle.manifest_log.specs.Format.{IsWritable, edit_bytes};
     ghost use Rattle.manifest_log.specs.Reading.{IsFresh, Reads, manifest};
 
@@ -49,26 +50,20 @@ impl Manifest {
         }
     }
 
-    /// A manifest without an edit, where `read` answers `None`: file 0 as it is, or made where there is none. After want of memory
-    /// another call can go on. A fault in making file 0 may pass its number over: then only another opening of the disk can make
-    /// it, and no call is to follow in this one. It would make a file of another number, remove it and answer want of memory or a
-    /// fault; a crash or a failed removal may leave that file alone, and a directory that no opening reads.
+    /// A manifest without an edit, where `read` answers `None`: file 0 as it is, or made where there is none. A fault in making file 0
+    /// may pass its number over: then only another opening of the disk can make it, and each further call of this one does nothing and
+    /// answers want of memory.
     pub fn begin<D: Disk>(alloc: Global, disk: &mut D) -> Result<Manifest, LogFault>
-        requires fresh { IsTrue D.tells → IsFresh (D.files disk.old) }
-        requires unread { HasNoReader (D.handed_out disk.old) }
-
+        requires { IsTrue D.tells → IsFresh (D.files disk.old) }
         ensures ok { IfOk result (λ begun. Begins (IsTrue D.tells) begun (D.files disk.old) (D.files disk.new)
             (D.crashes disk.old) (D.crashes disk.new) (D.handed_out disk.old) (D.handed_out disk.new)) }
-        ensures refused { OnErr result (BeginsNone (IsTrue D.tells) (IsErrOf result LogFault.Memory) (D.files disk.old) (D.files disk.new)
+        ensures refused { OnErr result (MakesNone (IsErrOf result LogFault.Memory) (D.files disk.old) (D.files disk.new)
             (D.crashes disk.old) (D.crashes disk.new) (D.handed_out disk.old) (D.handed_out disk.new)) }
         ensures damaged { (damage : Damage) → result ≡ Err (LogFault.Damaged damage) → IsTrue D.tells → ⊥ }
         ensures fault { LogHasCause result (D.health disk.old) (D.health disk.new) }
 
         // A crash at any moment of the call leaves file 0 as it was or new and whole, and nothing else changed.
-        ensures crash { IsTrue D.tells → CanBegin (IsTrue D.tells) (D.files disk.old) (D.handed_out disk.old)
-            → Leaves (ChangesAt manifest (MadeOrNot (Appears (0 ∷ [])))) (D.crashes disk.old) (D.crashes disk.new) }
-        // Where the number of file 0 was passed over, it leaves nothing changed but the file of the next number.
-        ensures others { IsTrue D.tells → Leaves (ChangesAt (D.handed_out disk.old).next_number Anything) (D.crashes disk.old) (D.crashes disk.new) }
+        ensures crash { IsTrue D.tells → Leaves (ChangesAt manifest (MadeOrNot (Appears (0 ∷ [])))) (D.crashes disk.old) (D.crashes disk.new) }
     {
         match look(disk)? {
             Found::Manifest => go_on(alloc, disk),

@@ -1,12 +1,12 @@
 ghost use Rattle.std.specs.Prelude.{◌≡◌, ◌∷◌, [], Err, IsTrue, IfOk, IfSome, IfNone, IsErrOf, OnErr};
 ghost use Rattle.std.specs.FinMap.{keys};
 ghost use Rattle.shard_disk.specs.Crash.{Leaves, Same};
-ghost use Rattle.shard_disk.specs.Directory.{Anything, Appears, ChangesAt, HasFile, IsPresent, MadeOrNot};
+ghost use Rattle.shard_disk.specs.Directory.{Appears, ChangesAt, HasFile, IsPresent, MadeOrNot};
 ghost use Rattle.shard_disk.specs.declared.damage.Damage.{Damage};
-ghost use Rattle.gate_log.specs.Calls.Make.{Makes};
+ghost use Rattle.gate_log.specs.Calls.Make.{MakesNone};
 ghost use Rattle.gate_log.specs.Damage.{IsLog};
 ghost use Rattle.gate_log.specs.Faults.{LogHasCause};
-ghost use Rattle.manifest_log.specs.Calls.{BeginsNone, Finds, GoesOn, HasNoReader, IsNew};
+ghost use Rattle.manifest_log.specs.Calls.{Finds, GoesOn, IsNew};
 ghost use Rattle.manifest_log.specs.Reading.{IsWrong};
 
 use crate::read::{damage, directory_of};
@@ -58,23 +58,19 @@ pub fn go_on<D: Disk>(alloc: Global, disk: &mut D) -> Result<Manifest, LogFault>
     Ok(Manifest { log })
 }
 
-/// Makes the manifest's file, where there is none. Where its number was passed over the file that is made is another, and is
-/// removed again.
+/// Makes the manifest's file, where there is none. Where its number was passed over nothing is made.
 pub fn make<D: Disk>(disk: &mut D) -> Result<Manifest, LogFault>
-    requires unread { HasNoReader (D.handed_out disk.old) }
     requires none { IsTrue D.tells → keys (D.files disk.old) ≡ [] }
     ensures ok { IfOk result (λ begun. IsNew (IsTrue D.tells) begun (D.files disk.old) (D.files disk.new) (D.crashes disk.new) (D.handed_out disk.old) (D.handed_out disk.new)) }
-    ensures refused { OnErr result (BeginsNone (IsTrue D.tells) (IsErrOf result LogFault.Memory)
+    ensures refused { OnErr result (MakesNone (IsErrOf result LogFault.Memory)
         (D.files disk.old) (D.files disk.new) (D.crashes disk.old) (D.crashes disk.new) (D.handed_out disk.old) (D.handed_out disk.new)) }
     ensures undamaged { (damage : Damage) → result ≡ Err (LogFault.Damaged damage) → ⊥ }
     ensures fault { LogHasCause result (D.health disk.old) (D.health disk.new) }
-    ensures crash { IsTrue D.tells → (D.handed_out disk.old).next_number ≡ 0 → Leaves (ChangesAt 0 (MadeOrNot (Appears (0 ∷ [])))) (D.crashes disk.old) (D.crashes disk.new) }
-    ensures others { IsTrue D.tells → Leaves (ChangesAt (D.handed_out disk.old).next_number Anything) (D.crashes disk.old) (D.crashes disk.new) }
+    ensures crash { IsTrue D.tells → Leaves (ChangesAt 0 (MadeOrNot (Appears (0 ∷ [])))) (D.crashes disk.old) (D.crashes disk.new) }
 {
-    let log = Log::make(disk)?;
-    if log.file() != 0 {
-        disk.remove(log.file())?;
+    if disk.next_number() != 0 {
         return Err(LogFault::Memory);
     }
+    let log = Log::make(disk)?;
     Ok(Manifest { log })
 }

@@ -2,7 +2,6 @@
 ghost use Rattle.std.specs.Prelude.{◌≡◌, [], IsTrue, IfOk, IfErr};
 ghost use Rattle.shard_disk.specs.declared.damage.Damage.{Damage};
 ghost use Rattle.point_model.specs.Histories.{nothing};
-ghost use Rattle.manifest_log.specs.Calls.{HasNoReader};
 ghost use Rattle.manifest_log.specs.Reading.{IsFresh};
 ghost use Rattle.shard_state.specs.Creating.{Creates, disk_of};
 ghost use Rattle.shard_state.specs.Engine.{IsReady};
@@ -17,8 +16,7 @@ use tsdb_types::Seed;
 
 /// The logs of a directory that names nothing yet: its first files are made and named. A refusal hands the disk back.
 pub fn open_new<D: Disk>(alloc: Global, seed: Seed, disk: D) -> Result<Logs<D>, (D, LogFault)>
-    requires fresh { IsTrue D.tells → IsFresh (D.files disk) }
-    requires unread { HasNoReader (D.handed_out disk) }
+    requires { IsTrue D.tells → IsFresh (D.files disk) }
 
     ensures ok { IfOk result (λ logs. IsTrue D.tells → IsBlankAtOpening (D.files disk) (D.crashes disk) (D.handed_out disk) → Opens D.Disk nothing logs) }
     ensures first { IfOk result (λ logs. (logs.series.keys ≡ []) × (logs.number ≡ 0)) }

@@ -15,7 +15,7 @@ use Rattle.gate_log.proofs.Images.{log_image, shut_has}
 use Rattle.point_model.specs.Histories.{nothing}
 use Rattle.manifest_log.specs.declared.change.Change.{Change}
 use Rattle.manifest_log.specs.declared.manifest.Manifest.{Manifest}
-use Rattle.manifest_log.specs.Calls.{Begins, CanBegin, CanFollow}
+use Rattle.manifest_log.specs.Calls.{Begins, CanFollow}
 use Rattle.manifest_log.specs.Reading.{bodies_of, manifest}
 use Rattle.manifest_log.proofs.BeginLemmas.{begun_file, begun_gate, begun_placed, begun_stands, first_follows}
 use Rattle.manifest_log.proofs.LookLemmas.{none_there}
@@ -107,13 +107,10 @@ module _ {D R W : Type 0} (g : Ghosts D R W) (numbered : (d : D) (n : ℕ) → I
   abbrev IsBlankThere : Type 0
   IsBlankThere = IsBlankAtOpening (g.files start) (g.crashes start) (g.handed_out start)
 
-  can_begin : IsTrue g.tells → IsBlankThere → CanBegin (IsTrue g.tells) (g.files start) (g.handed_out start)
-  can_begin told blank = ⊎_elim (λ none. inl none.1) (λ gated. inr (told, there (g.files start) manifest (IsGated []) gated.0)) blank
-
   -- a crash until the manifest is there
-  pub crash_begin : (IsTrue g.tells → CanBegin (IsTrue g.tells) (g.files start) (g.handed_out start) → Leaves (ChangesAt manifest (MadeOrNot (Appears (0 ∷ [])))) (g.crashes start) (g.crashes begun))
-      → IsTrue g.tells → IsBlankThere → ((c : Directory) → (g.crashes start).now c → Empty c) → LeavesOnly Empty (g.crashes start) (g.crashes begun)
-  crash_begin run told blank images = begin_leaves (g.crashes start) (g.crashes begun) images (run told (can_begin told blank))
+  pub crash_begin : (IsTrue g.tells → Leaves (ChangesAt manifest (MadeOrNot (Appears (0 ∷ [])))) (g.crashes start) (g.crashes begun))
+      → IsTrue g.tells → ((c : Directory) → (g.crashes start).now c → Empty c) → LeavesOnly Empty (g.crashes start) (g.crashes begun)
+  crash_begin run told images = begin_leaves (g.crashes start) (g.crashes begun) images (run told)
 
   module _ (m : Manifest) (begins : Begins (IsTrue g.tells) m (g.files start) (g.files begun) (g.crashes start) (g.crashes begun) (g.handed_out start) (g.handed_out begun)) (told : IsTrue g.tells) (blank : IsBlankThere) where
     pub stands_begun : Stands (g.files begun) (g.crashes begun) m.log [] None

@@ -5,7 +5,6 @@ ghost use Rattle.shard_disk.specs.Directory.{Directory};
 ghost use Rattle.shard_disk.specs.declared.damage.Damage.{Damage};
 ghost use Rattle.gate_log.specs.Faults.{LogHasCause};
 ghost use Rattle.point_model.specs.Histories.{nothing};
-ghost use Rattle.manifest_log.specs.Calls.{HasNoReader};
 ghost use Rattle.manifest_log.specs.Format.{edit_bytes};
 ghost use Rattle.manifest_log.specs.Reading.{IsFresh};
 ghost use Rattle.shard_state.specs.Crashes.{LeavesOnly};
@@ -35,8 +34,7 @@ pub(crate) struct Files {
 
 /// Makes the files of a directory that has none or whose manifest has no edit.
 fn make_files<D: Disk>(alloc: Global, disk: &mut D) -> Result<Files, LogFault>
-    requires fresh { IsTrue D.tells → IsFresh (D.files disk.old) }
-    requires unread { HasNoReader (D.handed_out disk.old) }
+    requires { IsTrue D.tells → IsFresh (D.files disk.old) }
 
     ensures first { IfOk result (AreFirst D.Disk disk.new) }
     ensures new { IfOk result (λ files. IsTrue D.tells → IsBlankAtOpening (D.files disk.old) (D.crashes disk.old) (D.handed_out disk.old) → AreNew D.Disk disk.new files) }
@@ -124,8 +122,7 @@ fn first_segment(alloc: Global, segment: Log) -> Result<Wal, AllocError>
 /// made, and named by one edit. A refusal hands the disk back. Then nothing is named or, after a fault, files without a series and
 /// without an entry may be.
 pub fn create<D: Disk>(alloc: Global, seed: Seed, disk: D) -> Result<Logs<D>, (D, LogFault)>
-    requires fresh { IsTrue D.tells → IsFresh (D.files disk) }
-    requires unread { HasNoReader (D.handed_out disk) }
+    requires { IsTrue D.tells → IsFresh (D.files disk) }
 
     ensures opened { IfOk result (λ logs. IsTrue D.tells → IsBlankAtOpening (D.files disk) (D.crashes disk) (D.handed_out disk) → IsOpened D.Disk nothing logs) }
     ensures first { IfOk result (λ logs. (logs.series.keys ≡ []) × (logs.number ≡ 0)) }
@@ -152,8 +149,7 @@ pub fn create<D: Disk>(alloc: Global, seed: Seed, disk: D) -> Result<Logs<D>, (D
 }
 
 fn make_parts<D: Disk>(alloc: Global, seed: Seed, disk: &mut D) -> Result<Parts, LogFault>
-    requires fresh { IsTrue D.tells → IsFresh (D.files disk.old) }
-    requires unread { HasNoReader (D.handed_out disk.old) }
+    requires { IsTrue D.tells → IsFresh (D.files disk.old) }
 
     ensures ready { IfOk result (λ parts. (alloc : Global) → IsReady D.Disk (first_logs alloc disk.new parts.manifest parts.series parts.wal)) }
     ensures opened { IfOk result (λ parts. IsTrue D.tells → IsBlankAtOpening (D.files disk.old) (D.crashes disk.old) (D.handed_out disk.old)
