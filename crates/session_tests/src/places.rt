@@ -1,11 +1,11 @@
 //! Where a session tells the gate that it has come: at a view while this is out, and at a reply when all of it is written.
-use point_model::Need;
+use point_model::{Deletion, Need};
 use session_io::{Gate, MemClock, MemSink, MemSource, Place, Sink};
 use session_loop::session;
 use shard_disk::Trouble;
 use std::sync::atomic::{AtomicU64, Ordering};
 use std::test::Fail;
-use store_trait::{ListView, PlainStore, Store, ViewFault, WriteFault};
+use store_trait::{DeleteFault, ListView, PlainStore, Store, ViewFault, WriteFault};
 use tsdb_types::Batch;
 
 /// A store that notes how many of its views are out.
@@ -24,6 +24,10 @@ impl<'a> Store for NotingStore<'a> {
 
     fn write(&mut self, batch: &Batch) -> Result<u64, WriteFault> {
         self.inner.write(batch)
+    }
+
+    fn delete(&mut self, deletion: &Deletion) -> Result<u64, DeleteFault> {
+        self.inner.delete(deletion)
     }
 
     fn begin_view(&mut self, need: &Need) -> Result<ListView, ViewFault> {

@@ -4,7 +4,7 @@ use line_protocol::read_batch;
 use point_model::{Need, PointCursor, TagCond, TagTest, TagText};
 use std::alloc::Global;
 use std::test::Fail;
-use store_trait::{ListView, PlainStore, Store, ViewFault, WriteFault};
+use store_trait::{DeleteFault, ListView, PlainStore, Store, ViewFault, WriteFault};
 use tsdb_types::{Kind, Name, Time, Value};
 
 // The answer to lines of writing, which spell a batch.
@@ -152,10 +152,11 @@ fn conflict_names_the_field_and_changes_nothing(rt: HostRuntime) -> Result<(), F
 fn faults_are_told_in_one_line(rt: HostRuntime) -> Result<(), Fail> {
     let alloc = rt.alloc();
     let text = format!(in alloc;
-        "{}; {}",
+        "{}; {}; {}",
         WriteFault::SeriesFull { held: 4 },
-        ViewFault::TooManyViews { out: 2 }
+        ViewFault::TooManyViews { out: 2 },
+        DeleteFault::HistoryFull
     )?;
-    assert_eq!(rt; text.as_str(), "4 series are held; 2 views are out");
+    assert_eq!(rt; text.as_str(), "4 series are held; 2 views are out; the last number is given");
     Ok(())
 }

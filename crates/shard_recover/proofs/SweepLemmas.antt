@@ -4,7 +4,7 @@ use Rattle.std.specs.List.{list_any}
 use Rattle.std.specs.FinMap.{get, keys}
 use Rattle.std.proofs.lemmas.Bool.{eqb-true, false≢true}
 use Rattle.shard_disk.specs.Crash.{Follows, Leaves, Same}
-use Rattle.shard_disk.specs.Directory.{Directory, ChangesAt, IsPresent, Step, Vanishes}
+use Rattle.shard_disk.specs.Directory.{Anything, Directory, ChangesAt, IsPresent, Step, Vanishes}
 use Rattle.shard_disk.specs.HandedOut.{HandedOut, GivesUp}
 use Rattle.shard_disk.specs.declared.disk.Disk.{Ghosts}
 use Rattle.shard_disk.proofs.Runs.{NoneBefore, joins, rests, starts, weakens}
@@ -17,6 +17,10 @@ other keep number n none among is = false≢true (sym none ∙ subst (λ (x : �
 
 spares_other : (keep : List ℕ) (number : ℕ) (step : Step) (old new : Directory) → list_any (λ y. nat_eq y number) keep ≡ false → ChangesAt number step old new → Spares keep old new
 spares_other keep number step old new none made n among = made.others n (other keep number n none among)
+
+-- a directory that stays as it is
+pub any_kept : (number : ℕ) (old new : Directory) → new ≡ old → ChangesAt number Anything old new
+any_kept number old new same = subst (ChangesAt number Anything old) (sym same) (record { here = tt; others = λ n ne. refl })
 
 pub removes_none : {D R W : Type 0} (g : Ghosts D R W) (keep : List ℕ) (disk : D) → NoneBefore (g.crashes disk) → Removes g keep disk disk
 removes_none g keep disk none = record {

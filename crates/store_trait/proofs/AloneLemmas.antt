@@ -1,10 +1,8 @@
 -- A store that is alone changes by its own calls.
 use Rattle.std.proofs.Common.{◌≡◌, ◌∙◌, ap, sym, refl, ℕ, ◌+◌, List, [], ◌∷◌, ◌++◌, length, IsTrue, arith, append-nil, length-append}
-use Rattle.tsdb_types.specs.declared.point.Point.{Point}
 use Rattle.point_model.specs.declared.entry.Entry.{Entry}
-use Rattle.point_model.specs.declared.entry.Entry.TheVariants.{Write}
 use Rattle.store_trait.specs.Told.{Told, Keeps, IsAlike, OwnsAll, numbers_from}
-use Rattle.store_trait.specs.Calls.Write.{Accepts}
+use Rattle.store_trait.specs.Calls.Entry.{Accepts}
 
 count_numbers : (number : ℕ) (entries : List Entry) → length (numbers_from number entries) ≡ length entries
 count_numbers number [] = refl
@@ -28,10 +26,10 @@ refused_makes_none old new kept alike alone owns =
     no_longer old.history kept.history.since new.history kept.history.begins
     (as_many new (kept.alone alone owns) ∙ ap length alike.own ∙ sym (as_many old owns))
 
-pub accepted_makes_one : (points : List Point) (number : ℕ) (old new : Told) → Keeps old new → Accepts points number old new → IsTrue new.is_alone → OwnsAll old
-    → new.history ≡ old.history ++ Write old.client points ∷ []
-accepted_makes_one points number old new kept accepts alone owns =
-    let one : List Entry = Write old.client points ∷ [] in
+pub accepted_makes_one : (made : Entry) (number : ℕ) (old new : Told) → Keeps old new → Accepts made number old new → IsTrue new.is_alone → OwnsAll old
+    → new.history ≡ old.history ++ made ∷ []
+accepted_makes_one made number old new kept accepts alone owns =
+    let one : List Entry = made ∷ [] in
     let now = as_many new (kept.alone alone owns) in
     let was = as_many old owns in
     let more = ap length accepts.own in

@@ -157,7 +157,7 @@ module _ (need : Need) where
       (λ (later : In (series, fields) entries). ordered_fields entries o.1 series fields later n)
       m
 
-ordered_rows : (entries : List (List ℕ × Rows)) → AreOrderedRows entries → (field : List ℕ) (rows : Rows) → In (field, rows) entries → IsOrdered int_cmp rows
+pub ordered_rows : (entries : List (List ℕ × Rows)) → AreOrderedRows entries → (field : List ℕ) (rows : Rows) → In (field, rows) entries → IsOrdered int_cmp rows
 ordered_rows [] o field rows m = absurd m
 ordered_rows (entry ∷ entries) o field rows m =
     ⊎_elim

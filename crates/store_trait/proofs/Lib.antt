@@ -7,9 +7,13 @@ pub mod HeadLemmas
 pub mod InLemmas
 pub mod KeyListLemmas
 pub mod KindLemmas
+mod LeftLemmas
 pub mod ListLemmas
 pub mod MapLemmas
+mod OfferLemmas
+mod RemovalLemmas
 pub mod ResultLemmas
+mod RetainLemmas
 pub mod RowLemmas
 pub mod SampleLemmas
 mod SettingLemmas

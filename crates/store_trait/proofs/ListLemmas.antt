@@ -5,7 +5,7 @@ use Rattle.std.proofs.lemmas.Bool.{false≢true}
 use Rattle.point_model.specs.Rows.{Row}
 use Rattle.store_trait.specs.Lists.{lists_of}
 
-no_length : {X : Type 0} (xs : List X) → length xs ≡ 0 → xs ≡ []
+pub no_length : {X : Type 0} (xs : List X) → length xs ≡ 0 → xs ≡ []
 no_length [] e = refl
 no_length (x ∷ xs) e = absurd (omega (arith, e))
 

@@ -1,2 +1,4 @@
+pub mod Delete
+pub mod Entry
 pub mod View
 pub mod Write

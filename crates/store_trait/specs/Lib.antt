@@ -2,7 +2,9 @@ pub mod Calls
 pub mod Gathered
 pub mod Laws
 pub mod Lists
+pub mod Notes
 pub mod Plain
+pub mod Removals
 pub mod Slots
 pub mod Tags
 pub mod Told

@@ -1,7 +1,6 @@
 -- What does a store in memory tell, and what holds of its fields?
-use Rattle.std.specs.Prelude.{◌≡◌, ◌⊎◌, ℕ, ◌≤◌, true, IsTrue, List, [], ◌∷◌, map, length, replicate, Option, Some, None, IsSome, slice_get, if◌then◌else◌}
+use Rattle.std.specs.Prelude.{◌≡◌, ◌⊎◌, ℕ, ◌≤◌, true, IsTrue, List, [], ◌∷◌, length, replicate, Option, Some, None, IsSome, slice_get, if◌then◌else◌}
 use Rattle.std.specs.Option.{option_and_then}
-use Rattle.std.specs.declared.snapshot.Snapshot.{Snapshot}
 use Rattle.tsdb_types.specs.Moments.{IsMoment}
 use Rattle.tsdb_types.specs.Values.{kind_of}
 use Rattle.tsdb_types.specs.declared.point.Cell.{Cell}
@@ -9,28 +8,24 @@ use Rattle.tsdb_types.specs.declared.point.Point.{Point}
 use Rattle.tsdb_types.specs.declared.value.Value.{Value}
 use Rattle.tsdb_types.specs.declared.value.Kind.{Kind}
 use Rattle.point_model.specs.Acceptance.{Conflict, conflict_before, is_same_kind}
-use Rattle.point_model.specs.declared.entry.Entry.{Entry}
 use Rattle.point_model.specs.Histories.{nothing, after}
-use Rattle.point_model.specs.declared.entry.Entry.TheVariants.{Write}
 use Rattle.point_model.specs.Measurements.{measurement_head, is_same_field}
 use Rattle.point_model.specs.Points.{Points, no_points, value_at}
+use Rattle.store_trait.specs.declared.note.EntryNote.{EntryNote}
+use Rattle.store_trait.specs.Notes.{entries_of}
 use Rattle.store_trait.specs.Slots.{Slots, Samples, slot_at, sample_of, held}
 use Rattle.store_trait.specs.Told.{Told, last_number, numbers_from}
 
--- the batches that were accepted, as entries of the client
-abbrev pub entries_of : ℕ → List (Snapshot (List Point)) → List Entry
-entries_of client batches = map (λ batch. Write client batch.value) batches
-
 -- It began with nothing, is alone, has no limits, and all its entries are its own.
-abbrev pub told_of : ℕ → List (Snapshot (List Point)) → ℕ → Told
-told_of client batches views = record {
+abbrev pub told_of : ℕ → List EntryNote → ℕ → Told
+told_of client notes views = record {
   client = client;
   start = nothing;
   tells = true;
   is_alone = true;
   limits = None;
-  history = entries_of client batches;
-  own = numbers_from 1 (entries_of client batches);
+  history = entries_of client notes;
+  own = numbers_from 1 (entries_of client notes);
   series = 0;
   out = replicate views 0;
 }
@@ -53,10 +48,10 @@ pub record Fits (slots : Slots) (samples : Samples) (points : Points) : Type 0 w
   pub one_kind : (a b : Cell) (v w : Value) → value_at points a ≡ Some v → value_at points b ≡ Some w → IsTrue (is_same_field a b) → kind_of v ≡ kind_of w
 
 -- What holds of a store's fields.
-pub record Holds (client : ℕ) (batches : List (Snapshot (List Point))) (number : ℕ) (slots : Slots) (samples : Samples) : Type 0 where
-  pub counted : number ≡ length batches
+pub record Holds (client : ℕ) (notes : List EntryNote) (number : ℕ) (slots : Slots) (samples : Samples) : Type 0 where
+  pub counted : number ≡ length notes
   pub limit : number ≤ last_number
-  pub fits : Fits slots samples (after no_points (entries_of client batches))
+  pub fits : Fits slots samples (after no_points (entries_of client notes))
 
 -- the point is one of these
 abbrev pub IsIn : List Point → Point → Type 0

@@ -1,5 +1,6 @@
 ghost use Rattle.std.specs.Prelude.{◌≡◌};
 ghost use Rattle.store_trait.specs.declared.fault.WriteFault.TheVariants as write_fault;
+ghost use Rattle.store_trait.specs.declared.fault.DeleteFault.TheVariants as delete_fault;
 ghost use Rattle.store_trait.specs.declared.fault.ViewFault.TheVariants as view_fault;
 
 use std::alloc::{AllocError, AllocFailed};
@@ -50,6 +51,36 @@ impl<T: Drop> From<AllocFailed<T>> for WriteFault {
 
     fn from(_: AllocFailed<T>) -> Self {
         WriteFault::Memory
+    }
+}
+
+/// Why a deletion was refused.
+#[derive(Clone, Copy, Debug, Error, PartialEq, Eq)]
+pub enum DeleteFault {
+    /// The last number, 9223372036854775807, is given.
+    #[error("the last number is given")]
+    HistoryFull,
+    /// There was no memory for the call.
+    #[error("out of memory")]
+    Memory,
+    /// A device failed.
+    #[error("a device failed")]
+    Fault,
+}
+
+impl From<AllocError> for DeleteFault {
+    ghost from_gives = { λ _ e. e ≡ delete_fault.Memory };
+
+    fn from(_: AllocError) -> Self {
+        DeleteFault::Memory
+    }
+}
+
+impl<T: Drop> From<AllocFailed<T>> for DeleteFault {
+    ghost from_gives = { λ _ e. e ≡ delete_fault.Memory };
+
+    fn from(_: AllocFailed<T>) -> Self {
+        DeleteFault::Memory
     }
 }
 

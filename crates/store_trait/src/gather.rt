@@ -108,7 +108,7 @@ fn rows_within(
     Ok(rows)
 }
 
-fn is_between(time: Time, from: Time, to: Time) -> bool
+pub(crate) fn is_between(time: Time, from: Time, to: Time) -> bool
     ensures { result ≡ (int_le from time && int_le time to) }
 {
     from.get() <= time.get() && time.get() <= to.get()

@@ -1,14 +1,15 @@
 // A store in memory.
-ghost use Rattle.std.specs.Prelude.{◌≡◌, ◌<◌, ◌≤◌, ◌++◌, [], ◌∷◌, All, Contains, IfOk, OnOk, OnErr, vec_len, vec_capacity};
+ghost use Rattle.std.specs.Prelude.{◌≡◌, ◌<◌, ◌≤◌, [], ◌∷◌, All, Contains, IfOk, OnOk, OnErr};
 
 use crate::gather::gather;
 use crate::names::{fields_of, heading_of};
+use crate::removal::{put_samples, removal_of, take_away};
 use crate::room::make_room;
 use crate::samples::{Samples, find_conflict};
 use crate::slots::{Slots, set_values};
 use crate::tags::tag_keys_of;
-use crate::{ListView, Store, ViewFault, WriteFault};
-use point_model::{Fields, Names, Need, TagKeys};
+use crate::{DeleteFault, EntryNote, ListView, Store, ViewFault, WriteFault, add_note};
+use point_model::{Deletion, Fields, Names, Need, TagKeys};
 use std::alloc::{AllocError, Global};
 use std::collections::BTreeMap;
 use std::marker::Model;
@@ -24,7 +25,7 @@ pub struct PlainStore {
     alloc: Global,
     client: u32,
     number: u64,
-    batches: Vec<Snapshot<Batch>>,
+    notes: Vec<EntryNote>,
     slots: Slots,
     samples: Samples,
     views: u64,
@@ -40,9 +41,9 @@ impl Model for PlainStore {
 
     ghost coded = { Prim.hlevel (codes, condition_code) };
 
-    ghost view = { λ s. told_of s.client s.batches.items s.views };
+    ghost view = { λ s. told_of s.client s.notes.items s.views };
 
-    ghost invariant = { λ s. Holds s.client s.batches.items s.number s.slots s.samples };
+    ghost invariant = { λ s. Holds s.client s.notes.items s.number s.slots s.samples };
 }
 
 impl PlainStore {
@@ -50,7 +51,8 @@ impl PlainStore {
     ghost use Rattle.tsdb_types.specs.Moments.{IsMoment};
     ghost use Rattle.point_model.specs.Acceptance.{conflict, IsAccepted, IsSound, IsWritable};
     ghost use Rattle.point_model.specs.Cursors.{Gives};
-    ghost use Rattle.store_trait.specs.Calls.Write.{Accepts};
+    ghost use Rattle.point_model.specs.declared.entry.Entry.TheVariants.{Write, Delete};
+    ghost use Rattle.store_trait.specs.Calls.Entry.{Accepts};
     ghost use Rattle.store_trait.specs.Calls.View.{without};
     ghost use Rattle.store_trait.specs.Plain.{told_of, conflict_of};
     ghost use Rattle.store_trait.specs.Told.{Keeps, state_now, last_number};
@@ -63,7 +65,7 @@ impl PlainStore {
             alloc,
             client,
             number: 0,
-            batches: Vec::new(alloc),
+            notes: Vec::new(alloc),
             slots: BTreeMap::new(alloc),
             samples: BTreeMap::new(alloc),
             views: 0,
@@ -140,16 +142,33 @@ impl PlainStore {
         requires writable { IsWritable batch.now }
         requires accepted { IsAccepted (state_now self.old).points batch.now }
         requires number { (state_now self.old).number < last_number }
-        ensures ok { IfOk result (λ number. Accepts batch.now number self.old self.new) }
+        ensures ok { IfOk result (λ number. Accepts (Write self.old.client batch.now) number self.old self.new) }
         ensures kept { Keeps self.old self.new }
         ensures err { OnErr result (self.new ≡ self.old) }
     {
         let points = batch.points();
         make_room(self.alloc, &mut self.slots, &mut self.samples, points)?;
-        self.batches.reserve(1)?;
+        self.notes.reserve(1)?;
         // Nothing is refused from here on.
         set_values(&mut self.slots, points);
-        note(&mut self.batches, Snapshot::of(batch));
+        add_note(&mut self.notes, EntryNote::Written(Snapshot::of(batch)));
+        self.number += 1;
+        Ok(self.number)
+    }
+
+    // Makes an entry of a deletion.
+    fn remove(&mut self, deletion: &Deletion) -> Result<u64, AllocError>
+        requires { (state_now self.old).number < last_number }
+        ensures ok { IfOk result (λ number. Accepts (Delete self.old.client deletion.now) number self.old self.new) }
+        ensures kept { Keeps self.old self.new }
+        ensures err { OnErr result (self.new ≡ self.old) }
+    {
+        let removal = removal_of(self.alloc, &self.slots, deletion)?;
+        self.notes.reserve(1)?;
+        // Nothing is refused from here on.
+        take_away(&mut self.slots, deletion);
+        put_samples(&mut self.samples, removal);
+        add_note(&mut self.notes, EntryNote::Deleted(Snapshot::of(deletion)));
         self.number += 1;
         Ok(self.number)
     }
@@ -180,6 +199,15 @@ impl Store for PlainStore {
         Ok(number)
     }
 
+    fn delete(&mut self, deletion: &Deletion) -> Result<u64, DeleteFault> {
+        let last = self.last();
+        if last >= LAST_NUMBER {
+            return Err(DeleteFault::HistoryFull);
+        }
+        let number = self.remove(deletion)?;
+        Ok(number)
+    }
+
     fn begin_view(&mut self, need: &Need) -> Result<ListView, ViewFault> {
         self.look();
         let view = self.list(need)?;
@@ -195,12 +223,4 @@ impl Store for PlainStore {
     fn number(&mut self) -> u64 {
         self.last()
     }
-}
-
-// Notes a batch where the room for it is there. It takes no bytes.
-fn note(batches: &mut Vec<Snapshot<Batch>>, batch: Snapshot<Batch>)
-    requires { vec_len batches.old < vec_capacity batches.old }
-    ensures { batches.new.items ≡ batches.old.items ++ batch ∷ [] }
-{
-    let _ = batches.push(batch);
 }

@@ -1,18 +1,22 @@
 ghost use Rattle.std.specs.Prelude.{◌≡◌, Contains, false, IfOk, IfErr, OnErr};
 ghost use Rattle.shard_disk.specs.Health.{Health, Ages, IsFresh};
 ghost use Rattle.point_model.specs.Acceptance.{IsWritable};
+ghost use Rattle.point_model.specs.Deletions.{IsLoggable};
+ghost use Rattle.point_model.specs.declared.entry.Entry.TheVariants.{Write, Delete};
 ghost use Rattle.store_trait.specs.Told.{Told, Keeps, IsAlike, state_now};
-ghost use Rattle.store_trait.specs.Calls.Write.{Accepts, WriteHasCause, IsQuiet as IsQuietWrite};
+ghost use Rattle.store_trait.specs.Calls.Delete.{DeleteHasCause, IsQuiet as IsQuietDelete};
+ghost use Rattle.store_trait.specs.Calls.Entry.{Accepts};
+ghost use Rattle.store_trait.specs.Calls.Write.{WriteHasCause, IsQuiet as IsQuietWrite};
 ghost use Rattle.store_trait.specs.Laws.{AloneChangesItself};
 ghost use Rattle.store_trait.specs.Calls.View.{Begins, Ends, TakesBack, ViewHasCause, IsQuiet as IsQuietView};
 
-use crate::{ViewFault, WriteFault};
-use point_model::{Need, PointCursor};
+use crate::{DeleteFault, ViewFault, WriteFault};
+use point_model::{Deletion, Need, PointCursor};
 use tsdb_types::Batch;
 
-/// Points that a client writes to and reads. Its points are those of its start behind the entries of its history, which other
-/// clients may add to between its calls, but where the store is alone. A refused call leaves the points and the numbers, but
-/// for entries of others. The count of faults rises by an answer that tells one, and by the end of a view that met one.
+/// Points that a client writes to, deletes from and reads. Its points are those of its start behind the entries of its history,
+/// which other clients may add to between its calls, but where the store is alone. A refused call leaves the points and the
+/// numbers, but for entries of others. The count of faults rises by an answer that tells one, and by the end of a view that met one.
 pub trait Store {
     type View: PointCursor;
 
@@ -24,12 +28,23 @@ pub trait Store {
     /// Makes one entry of the batch and gives its number, at most 9223372036854775807.
     fn write(&mut self, batch: &Batch) -> Result<u64, WriteFault>
         requires { IsWritable batch.now }
-        ensures ok { IfOk result (λ number. Accepts batch.now number (told self.old) (told self.new)) }
+        ensures ok { IfOk result (λ number. Accepts (Write (told self.old).client batch.now) number (told self.old) (told self.new)) }
         ensures err { OnErr result (IsAlike (told self.old) (told self.new)) }
         ensures refused { IfErr result (WriteHasCause batch.now (told self.new) (health self.old) (health self.new)) }
         ensures kept { Keeps (told self.old) (told self.new) }
         ensures ages { Ages (health self.old) (health self.new) }
         ensures quiet { IsQuietWrite result (health self.old) (health self.new) };
+
+    /// Makes one entry of the deletion and gives its number, at most 9223372036854775807. A deletion that meets no point is an
+    /// entry like any other.
+    fn delete(&mut self, deletion: &Deletion) -> Result<u64, DeleteFault>
+        requires { IsLoggable deletion.now }
+        ensures ok { IfOk result (λ number. Accepts (Delete (told self.old).client deletion.now) number (told self.old) (told self.new)) }
+        ensures err { OnErr result (IsAlike (told self.old) (told self.new)) }
+        ensures refused { IfErr result (DeleteHasCause (told self.new) (health self.old) (health self.new)) }
+        ensures kept { Keeps (told self.old) (told self.new) }
+        ensures ages { Ages (health self.old) (health self.new) }
+        ensures quiet { IsQuietDelete result (health self.old) (health self.new) };
 
     /// A view of the points as they are now. It has to be ended.
     fn begin_view(&mut self, need: &Need) -> Result<Self::View, ViewFault>
@@ -58,7 +73,7 @@ pub trait Store {
         ensures health { health self.new ≡ health self.old };
 }
 
-/// A store that is alone has no entries but its own: a refused call makes none, and an accepted write makes one.
+/// A store that is alone has no entries but its own: a refused call makes none, and an accepted one makes its own.
 pub fn alone_changes_itself()
     ensures { AloneChangesItself }
 {}

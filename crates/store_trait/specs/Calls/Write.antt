@@ -1,29 +1,16 @@
--- When is a batch accepted by a store, and when refused?
-use Rattle.std.specs.Prelude.{◌≡◌, ◌⊎◌, ◌↔◌, ℕ, ◌+◌, ◌<◌, ◌≤◌, IsTrue, List, [], ◌∷◌, ◌++◌, length, Any, Contains, Some, ⊤, IfSome, IsSomeAnd, Result, IsErrOf}
+-- When is a batch refused by a store?
+use Rattle.std.specs.Prelude.{◌≡◌, ◌⊎◌, ◌↔◌, ℕ, ◌+◌, ◌<◌, ◌≤◌, IsTrue, List, length, Any, Contains, Some, ⊤, IfSome, IsSomeAnd, Result, IsErrOf}
 use Rattle.std.specs.List.{IsDistinct}
 use Rattle.std.specs.Str.{bytes_eq}
 use Rattle.shard_disk.specs.Health.{Health, Failed}
 use Rattle.tsdb_types.specs.declared.point.Point.{Point}
 use Rattle.point_model.specs.declared.entry.Entry.{Entry}
-use Rattle.point_model.specs.Histories.{state_after}
 use Rattle.point_model.specs.declared.entry.Entry.TheVariants.{Write, Delete}
 use Rattle.point_model.specs.Acceptance.{Conflict, conflict, IsAccepted}
 use Rattle.point_model.specs.Points.{Points}
 use Rattle.store_trait.specs.declared.fault.WriteFault.{WriteFault}
 use Rattle.store_trait.specs.declared.fault.WriteFault.TheVariants as fault
-use Rattle.store_trait.specs.Told.{Told, Limits, IsLater, state_now, last_number, points_written}
-
--- The history ends with the batch as one entry of the client, and its number is the one that is given. The points before
--- the entry accept it.
-pub record Accepts (points : List Point) (number : ℕ) (old new : Told) : Type 0 where
-  pub before : List Entry
-  pub later : IsLater old.history before
-  pub entry : new.history ≡ before ++ Write old.client points ∷ []
-  pub accepted : IsTrue old.tells → IsAccepted (state_after old.start before).points points
-  pub given : number ≡ (state_now new).number
-  pub limit : number ≤ last_number
-  pub own : new.own ≡ old.own ++ number ∷ []
-  pub out : new.out ≡ old.out
+use Rattle.store_trait.specs.Told.{Told, Limits, state_now, last_number, points_written}
 
 abbrev pub HasSeries : List Point → List ℕ → Type 0
 HasSeries points series = Any (λ point. point.cell.series ≡ series) points

@@ -1,7 +1,6 @@
 use Rattle.std.proofs.Common.{inl, refl, sym, ◌∙◌}
 use Rattle.shard_disk.specs.Directory.{Anything, MadeOrNot, Vanishes}
-use Rattle.manifest_log.proofs.BeginLemmas.{any_kept}
-use Rattle.shard_recover.proofs.SweepLemmas.{leaves_gone, leaves_kept, removes_none, removes_one}
+use Rattle.shard_recover.proofs.SweepLemmas.{any_kept, leaves_gone, leaves_kept, removes_none, removes_one}
 use Rattle.shard_recover.proofs.sweep.remove_other.Goals as goal
 
 pub returns-then-contains-clause-removes : goal.returns-then-contains-clause-removes

@@ -8,7 +8,7 @@ use Rattle.point_model.specs.Rows.{Row}
 use Rattle.point_model.specs.Histories.{after}
 use Rattle.point_model.specs.Points.{no_points}
 use Rattle.store_trait.specs.Gathered.{kinds_of, listed, rows_taken, whole}
-use Rattle.store_trait.specs.Plain.{entries_of}
+use Rattle.store_trait.specs.Notes.{entries_of}
 use Rattle.store_trait.specs.Lists.{lists_of}
 use Rattle.store_trait.specs.Slots.{text_cmp}
 use Rattle.store_trait.specs.Told.{Told, state_now}
@@ -24,9 +24,9 @@ returns-clause-gives c =
     let slots = c.self.inside.slots in
     let samples = c.self.inside.samples in
     let need = c.args.need.now in
-    let points = after no_points (entries_of c.self.inside.client c.self.inside.batches.items) in
+    let points = after no_points (entries_of c.self.inside.client c.self.inside.notes.items) in
     let fits = c.self.invariant.fits in
-    let sorted = in_order c.self.inside.client c.self.inside.batches.items in
+    let sorted = in_order c.self.inside.client c.self.inside.notes.items in
     let named = c.heading_of.ensures.name in
     let heading = c.in_ok-heading.ensures.heading in
     let entries = listed need slots.entries in

@@ -10,9 +10,9 @@ use Rattle.store_trait.proofs.plain.PlainStore.look.Goals as goal
 pub returns-clause-sound : goal.returns-clause-sound
 returns-clause-sound c =
     subst (λ (t : Told). IsSound (state_now t).points) c.self.view_is
-    (sound c.self.inside.slots c.self.inside.samples _ c.self.invariant.fits (in_order c.self.inside.client c.self.inside.batches.items))
+    (sound c.self.inside.slots c.self.inside.samples _ c.self.invariant.fits (in_order c.self.inside.client c.self.inside.notes.items))
 
 pub returns-clause-timed : goal.returns-clause-timed
 returns-clause-timed c =
     subst (λ (t : Told). All (λ point. IsMoment point.0.time) (state_now t).points) c.self.view_is
-    (timed c.self.inside.slots c.self.inside.samples _ c.self.invariant.fits (in_order c.self.inside.client c.self.inside.batches.items))
+    (timed c.self.inside.slots c.self.inside.samples _ c.self.invariant.fits (in_order c.self.inside.client c.self.inside.notes.items))
