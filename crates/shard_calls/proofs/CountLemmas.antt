@@ -3,7 +3,6 @@ use Rattle.std.proofs.Common.{◌≡◌, ◌∙◌, ℕ, ◌+◌, ◌≤◌, Boo
 use Rattle.std.specs.List.{IsDistinct}
 use Rattle.std.specs.Ordering.{match_ordering}
 use Rattle.std.specs.Str.{bytes_eq}
-use Rattle.std.specs.declared.snapshot.Snapshot.{Snapshot}
 use Rattle.std.proofs.lemmas.Bool.{false≢true}
 use Rattle.std.proofs.lemmas.Cmp.{nat_list_eq_equiv}
 use Rattle.std.proofs.lemmas.List.Filters.{length-filter_both}
@@ -21,16 +20,26 @@ use Rattle.point_model.specs.Deletions.{is_deleted, without}
 use Rattle.point_model.specs.Histories.{after, with_points}
 use Rattle.point_model.specs.Points.{Points, cell_cmp, with_point}
 use Rattle.store_trait.specs.Calls.Write.{AreKnown, AreNew}
-use Rattle.store_trait.specs.Plain.{entries_of}
+use Rattle.store_trait.specs.Notes.{entries_of, entry_noted}
+use Rattle.store_trait.specs.declared.note.EntryNote.{EntryNote}
 use Rattle.store_trait.specs.Told.{Limits, numbers_from, points_in, points_written}
 use Rattle.shard_steps.specs.Series.{AreUnheld, is_among, series_of}
 use Rattle.shard_calls.proofs.SeriesLemmas.{among_from_has, among_from_written, by_case, fresh, fresh_member, fresh_onto, has_from_among, texts_in, written_from_among}
 
 -- Entries and their numbers.
 
-pub entries-last : (client : ℕ) (batches : List (Snapshot (List Point))) (batch : Snapshot (List Point)) → entries_of client (batches ++ batch ∷ []) ≡ entries_of client batches ++ Write client batch.value ∷ []
-entries-last client [] batch = refl
-entries-last client (first ∷ batches) batch = ap (λ (es : List Entry). Write client first.value ∷ es) (entries-last client batches batch)
+pub entries-last : (client : ℕ) (notes : List EntryNote) (note : EntryNote) → entries_of client (notes ++ note ∷ []) ≡ entries_of client notes ++ entry_noted client note ∷ []
+entries-last client [] note = refl
+entries-last client (first ∷ notes) note = ap (λ (es : List Entry). entry_noted client first ∷ es) (entries-last client notes note)
+
+-- a note that was put behind the others, where room was made for it
+pub noted : (client : ℕ) (old mid new : List EntryNote) (note : EntryNote) (entry : Entry) → mid ≡ old → new ≡ mid ++ note ∷ [] → entry_noted client note ≡ entry
+    → entries_of client new ≡ entries_of client old ++ entry ∷ []
+noted client old mid new note entry room put is =
+    ap (λ (l : List EntryNote). entries_of client l) put
+    ∙ ap (λ (l : List EntryNote). entries_of client (l ++ note ∷ [])) room
+    ∙ entries-last client old note
+    ∙ ap (λ (e : Entry). entries_of client old ++ e ∷ []) is
 
 pub numbers-last : (number : ℕ) (entries : List Entry) (entry : Entry) → numbers_from number (entries ++ entry ∷ []) ≡ numbers_from number entries ++ (number + length entries) ∷ []
 numbers-last number [] entry = ap (λ (n : ℕ). n ∷ []) (omega arith)

@@ -1,8 +1,6 @@
 -- What a step of the engine makes of what the store tells.
-use Rattle.std.proofs.Common.{◌≡◌, ◌∙◌, ℕ, suc, ◌+◌, ◌<◌, ◌≤◌, All, true, false, List, [], ◌∷◌, ◌++◌, length, refl, sym, ap, subst, arith, length-append, append-nil, append_assoc, Contains, ⊎_elim, replicate, IsTrue, Option, None, Some, Result, Ok, Err, IfOk, OnOk, OnErr}
-use Rattle.std.specs.List.{AllByRecursion}
+use Rattle.std.proofs.Common.{◌≡◌, ◌∙◌, ℕ, suc, ◌+◌, ◌<◌, ◌≤◌, All, Any, true, false, List, [], ◌∷◌, ◌++◌, length, refl, sym, ap, subst, arith, length-append, append-nil, append_assoc, Contains, ◌⊎◌, inl, inr, ⊎_elim, replicate, IsTrue, Option, None, Some, Result, Ok, Err, IfOk, OnOk, OnErr}
 use Rattle.std.specs.Str.{bytes_eq}
-use Rattle.std.specs.declared.snapshot.Snapshot.{Snapshot}
 use Rattle.std.proofs.lemmas.Bool.{false≢true}
 use Rattle.std.proofs.lemmas.List.Folds.{list_any-append}
 use Rattle.shard_disk.specs.Health.{Health}
@@ -11,28 +9,33 @@ use Rattle.tsdb_types.specs.declared.point.Point.{Point}
 use Rattle.tsdb_types.specs.Moments.{IsMoment}
 use Rattle.point_model.specs.Acceptance.{IsAccepted, IsSound}
 use Rattle.point_model.specs.Cursors.{Gives, Shown}
+use Rattle.point_model.specs.declared.deletion.Deletion.{Deletion}
 use Rattle.point_model.specs.declared.need.Need.{Need}
 use Rattle.point_model.specs.Histories.{State, state_after}
 use Rattle.point_model.specs.declared.entry.Entry.{Entry}
-use Rattle.point_model.specs.declared.entry.Entry.TheVariants.{Write}
+use Rattle.point_model.specs.declared.entry.Entry.TheVariants.{Write, Delete}
 use Rattle.point_model.proofs.HistoryLemmas.{same_state, state_after-append}
-use Rattle.store_trait.specs.Calls.Write.{Accepts, IsOpen, FitsSeries, PassesSeries, PassesCache, WriteHasCause}
+use Rattle.store_trait.specs.Calls.Delete.{DeleteHasCause}
+use Rattle.store_trait.specs.Calls.Entry.{Accepts, TakesEntry}
+use Rattle.store_trait.specs.Calls.Write.{IsOpen, FitsSeries, PassesSeries, PassesCache, WriteHasCause, WritesSeries}
 use Rattle.store_trait.specs.Calls.View.{Begins, Ends, without}
-use Rattle.store_trait.specs.Plain.{entries_of}
 use Rattle.store_trait.specs.Told.{IsAlike, Keeps, last_number, numbers_from}
+use Rattle.store_trait.specs.declared.fault.DeleteFault.{DeleteFault}
+use Rattle.store_trait.specs.declared.fault.DeleteFault.TheVariants as delete_fault
 use Rattle.store_trait.specs.declared.fault.WriteFault.{WriteFault}
 use Rattle.store_trait.specs.declared.fault.WriteFault.TheVariants as fault
 use Rattle.shard_state.specs.History.{Made, entries_of as entries_made}
 use Rattle.shard_state.specs.Meaning.{AreHeld}
+use Rattle.shard_steps.specs.Calls.Delete as deleting
 use Rattle.shard_steps.specs.Calls.View.{Lends}
 use Rattle.shard_steps.specs.Calls.Write as steps
 use Rattle.shard_steps.specs.Series.{is_among, series_of}
 use Rattle.shard_steps.specs.Shards.{IsReady, Runs, state_of}
 use Rattle.shard_steps.specs.declared.shard.Shard.{Shard}
-use Rattle.shard_calls.specs.Holds.{HasRun, Holds}
+use Rattle.shard_calls.specs.Holds.{HasRun, Holds, HoldsSeries}
 use Rattle.shard_calls.specs.Told.{limits_of, told_of}
-use Rattle.shard_calls.proofs.CountLemmas.{all_few, all_texts, among_contains, are_known, are_new, contains_among, entries-last, few_left, known_few, known_of, left_true, new_of, numbers-last, or_true, unheld_few}
-use Rattle.shard_calls.proofs.SeriesLemmas.{texts_in, turned}
+use Rattle.shard_calls.proofs.CountLemmas.{all_few, all_texts, among_contains, are_known, are_new, contains_among, few_left, known_few, known_of, left_true, new_of, numbers-last, or_true, unheld_few}
+use Rattle.shard_calls.proofs.SeriesLemmas.{among_from_written, texts_in, turned, written_from_among}
 
 -- Results.
 
@@ -53,31 +56,126 @@ held_points keys (point ∷ points) held text there = ⊎_elim
     (λ more. held_points keys points held.1 text more)
     (or_true (bytes_eq text point.cell.series) (is_among (series_of points) text) there)
 
-held_texts : (keys : List (List ℕ)) (client : ℕ) (batches : List (Snapshot (List Point))) → AllByRecursion (λ (batch : Snapshot (List Point)). AreHeld keys batch.value) batches
-    → (text : List ℕ) → is_among (texts_in (entries_of client batches)) text ≡ true → is_among keys text ≡ true
-held_texts keys client [] held text there = absurd (false≢true there)
-held_texts keys client (batch ∷ batches) held text there = ⊎_elim
-    (λ one. held_points keys batch.value held.0 text one)
-    (λ more. held_texts keys client batches held.1 text more)
-    (or_true (is_among (series_of batch.value) text) (is_among (texts_in (entries_of client batches)) text)
-    (sym (list_any-append (bytes_eq text) (series_of batch.value) (texts_in (entries_of client batches))) ∙ there))
-
 pub longer : (keys more : List (List ℕ)) (text : List ℕ) → Contains keys text → Contains (keys ++ more) text
 longer keys more text at = among_contains (keys ++ more) text (list_any-append (bytes_eq text) keys more ∙ left_true (is_among keys text) (is_among more text) (contains_among keys text at))
 
-held_longer : (keys more : List (List ℕ)) (points : List Point) → AreHeld keys points → AreHeld (keys ++ more) points
-held_longer keys more [] held = tt
-held_longer keys more (point ∷ points) held = (longer keys more point.cell.series held.0, held_longer keys more points held.1)
+texts-append : (first second : List Entry) → texts_in (first ++ second) ≡ texts_in first ++ texts_in second
+texts-append [] second = refl
+texts-append (Write client points ∷ first) second =
+    ap (λ (l : List (List ℕ)). series_of points ++ l) (texts-append first second) ∙ sym (append_assoc (series_of points) (texts_in first) (texts_in second))
+texts-append (Delete client deletion ∷ first) second = texts-append first second
 
-all_longer : (keys more : List (List ℕ)) (batches : List (Snapshot (List Point))) → AllByRecursion (λ (batch : Snapshot (List Point)). AreHeld keys batch.value) batches
-    → AllByRecursion (λ (batch : Snapshot (List Point)). AreHeld (keys ++ more) batch.value) batches
-all_longer keys more [] held = tt
-all_longer keys more (batch ∷ batches) held = (held_longer keys more batch.value held.0, all_longer keys more batches held.1)
+written_either : (first second : List Entry) (text : List ℕ) → Any (WritesSeries text) (first ++ second) → Any (WritesSeries text) first ⊎ Any (WritesSeries text) second
+written_either first second text wrote = ⊎_elim
+    (λ before. inl (written_from_among first text before))
+    (λ now. inr (written_from_among second text now))
+    (or_true (is_among (texts_in first) text) (is_among (texts_in second) text)
+    (sym (list_any-append (bytes_eq text) (texts_in first) (texts_in second))
+    ∙ sym (ap (λ (l : List (List ℕ)). is_among l text) (texts-append first second))
+    ∙ among_from_written (first ++ second) text wrote))
 
-all_pushed : (keys : List (List ℕ)) (batches : List (Snapshot (List Point))) (one : Snapshot (List Point)) → AllByRecursion (λ (batch : Snapshot (List Point)). AreHeld keys batch.value) batches
-    → AreHeld keys one.value → AllByRecursion (λ (batch : Snapshot (List Point)). AreHeld keys batch.value) (batches ++ one ∷ [])
-all_pushed keys [] one held now = (now, tt)
-all_pushed keys (batch ∷ batches) one held now = (held.0, all_pushed keys batches one held.1 now)
+pub holds_nothing : (first : List (List ℕ)) → HoldsSeries first [] first
+holds_nothing first = record { more = []; from_start = sym (append-nil first); written = λ text wrote. absurd (false≢true (among_from_written [] text wrote)) }
+
+-- entries behind others
+pub holds_then : (first keys new : List (List ℕ)) (entries more : List Entry) → HoldsSeries first entries keys → HoldsSeries keys more new → HoldsSeries first (entries ++ more) new
+holds_then first keys new entries more was then = record {
+  more = was.more ++ then.more;
+  from_start = then.from_start ∙ ap (λ (l : List (List ℕ)). l ++ then.more) was.from_start ∙ append_assoc first was.more then.more;
+  written = λ text wrote. ⊎_elim
+      (λ before. subst (λ (l : List (List ℕ)). Contains l text) (sym then.from_start) (longer keys then.more text (was.written text before)))
+      (λ now. then.written text now)
+      (written_either entries more text wrote);
+}
+
+-- series alone
+pub holds_grown : (first keys more new : List (List ℕ)) (entries : List Entry) → HoldsSeries first entries keys → new ≡ keys ++ more → HoldsSeries first entries new
+holds_grown first keys more new entries was is = record {
+  more = was.more ++ more;
+  from_start = is ∙ ap (λ (l : List (List ℕ)). l ++ more) was.from_start ∙ append_assoc first was.more more;
+  written = λ text wrote. subst (λ (l : List (List ℕ)). Contains l text) (sym is) (longer keys more text (was.written text wrote));
+}
+
+holds_batch : (keys more new : List (List ℕ)) (client : ℕ) (points : List Point) → new ≡ keys ++ more → AreHeld new points → HoldsSeries keys (Write client points ∷ []) new
+holds_batch keys more new client points is held = record {
+  more = more;
+  from_start = is;
+  written = λ text wrote. among_contains new text (held_points new points held text
+      (ap (λ (l : List (List ℕ)). is_among l text) (sym (append-nil (series_of points))) ∙ among_from_written (Write client points ∷ []) text wrote));
+}
+
+holds_deletion : (keys new : List (List ℕ)) (client : ℕ) (deletion : Deletion) → new ≡ keys → HoldsSeries keys (Delete client deletion ∷ []) new
+holds_deletion keys new client deletion is = record {
+  more = [];
+  from_start = is ∙ sym (append-nil keys);
+  written = λ text wrote. absurd (false≢true (among_from_written (Delete client deletion ∷ []) text wrote));
+}
+
+-- what the start has and the entries write is held
+pub within_held : (first keys : List (List ℕ)) (entries : List Entry) → HoldsSeries first entries keys → (text : List ℕ) → is_among (first ++ texts_in entries) text ≡ true → is_among keys text ≡ true
+within_held first keys entries holds text there = ⊎_elim
+    (λ one. ap (λ (l : List (List ℕ)). is_among l text) holds.from_start ∙ list_any-append (bytes_eq text) first holds.more ∙ left_true (is_among first text) (is_among holds.more text) one)
+    (λ more. contains_among keys text (holds.written text (written_from_among entries text more)))
+    (or_true (is_among first text) (is_among (texts_in entries) text) (sym (list_any-append (bytes_eq text) first (texts_in entries)) ∙ there))
+
+-- Steps.
+
+-- An entry more: what a batch that is accepted and a deletion say alike.
+pub record MakesEntry {D : Type 0} (made : Entry) (number : ℕ) (old new : Shard D) : Type 0 where
+  pub taken : TakesEntry old.live.points made
+  pub state : state_of new ≡ state_after (state_of old) (made ∷ [])
+  pub given : number ≡ new.logs.number
+  pub limit : number ≤ last_number
+  pub series : HoldsSeries old.logs.series.keys (made ∷ []) new.logs.series.keys
+  pub settings : new.settings ≡ old.settings
+  pub views : new.views ≡ old.views
+
+-- No entry more: what a refusal leaves.
+pub record MakesNone {D : Type 0} (old new : Shard D) : Type 0 where
+  pub state : state_of new ≡ state_of old
+  pub more : List (List ℕ)
+  pub series : new.logs.series.keys ≡ old.logs.series.keys ++ more
+  pub settings : new.settings ≡ old.settings
+  pub views : new.views ≡ old.views
+
+pub write_makes : {D : Type 0} (client number : ℕ) (points : List Point) (old new : Shard D) → steps.Adds client points number old new → steps.Keeps old new
+    → MakesEntry (Write client points) number old new
+write_makes client number points old new adds kept = record {
+  taken = adds.accepted;
+  state = adds.state;
+  given = adds.given;
+  limit = adds.limit;
+  series = holds_batch old.logs.series.keys kept.more new.logs.series.keys client points kept.series adds.held;
+  settings = kept.settings;
+  views = kept.views;
+}
+
+pub write_makes_none : {D : Type 0} (old new : Shard D) → state_of new ≡ state_of old → steps.Keeps old new → MakesNone old new
+write_makes_none old new same kept = record { state = same; more = kept.more; series = kept.series; settings = kept.settings; views = kept.views }
+
+pub delete_makes : {D R W : Type 0} (g : Ghosts D R W) (client number : ℕ) (deletion : Deletion) (old new : Shard D) → deleting.AddsDeletion client deletion number old new → deleting.LeavesRest g old new
+    → MakesEntry (Delete client deletion) number old new
+delete_makes g client number deletion old new adds rest = record {
+  taken = tt;
+  state = adds.state;
+  given = adds.given;
+  limit = adds.limit;
+  series = holds_deletion old.logs.series.keys new.logs.series.keys client deletion rest.series;
+  settings = rest.settings;
+  views = rest.views;
+}
+
+pub delete_makes_none : {D R W : Type 0} (g : Ghosts D R W) (old new : Shard D) → state_of new ≡ state_of old → deleting.LeavesRest g old new → MakesNone old new
+delete_makes_none g old new same rest = record { state = same; more = []; series = rest.series ∙ sym (append-nil old.logs.series.keys); settings = rest.settings; views = rest.views }
+
+-- The history goes on with the entry, or a refusal leaves it.
+abbrev pub GoesTo : {D R W : Type 0} → Ghosts D R W → Entry → Shard D → Shard D → Type 0
+GoesTo g entry old new = IsTrue g.tells → (start : State) (since : ℕ) (made : List Made) (refused : List Entry) (doubt : Option Entry) → Runs g old start since made refused doubt
+    → Runs g new start since (made ++ record { entry = entry; moment = (g.crashes new.logs.disk).moment } ∷ []) refused None
+
+abbrev pub StaysBehind : {D R W : Type 0} → Ghosts D R W → Type 0 → Entry → Shard D → Shard D → Type 0
+StaysBehind g Fault entry old new = IsTrue g.tells → (start : State) (since : ℕ) (made : List Made) (refused : List Entry) (doubt : Option Entry) → Runs g old start since made refused doubt
+    → (tried : List Entry) × (left : Option Entry) × steps.IsTried Fault entry refused doubt tried left × Runs g new start since made tried left
 
 pub made-last : (made : List Made) (one : Made) → entries_made (made ++ one ∷ []) ≡ entries_made made ++ one.entry ∷ []
 made-last [] one = refl
@@ -88,63 +186,34 @@ made-last (first ∷ made) one = ap (λ (es : List Entry). first.entry ∷ es) (
 pub one_out : (views : ℕ) → replicate {A = ℕ} (views + 1) 0 ≡ 0 ∷ replicate views 0
 one_out views = let e : views + 1 ≡ suc views = omega arith in ap (λ (n : ℕ). replicate {A = ℕ} n 0) e
 
-module _ {D R W : Type 0} (g : Ghosts D R W) (WasSound : ℕ → Type 0) (start : State) (first : List (List ℕ)) (client : ℕ) where
+module _ {D R W : Type 0} (g : Ghosts D R W) (WasSound : ℕ → Type 0) (start : State) (first : List (List ℕ)) where
   -- At the start.
   pub holds_none : (shard : Shard D) → IsReady g shard → state_of shard ≡ start → shard.logs.series.keys ≡ first → (IsTrue g.tells → (since : ℕ) → WasSound since → HasRun g start since [] shard)
-      → Holds g WasSound start first client [] shard
+      → Holds g WasSound start first [] shard
   holds_none shard ready at series ran = record {
     ready = ready;
     state = at ∙ same_state _ _ _ _ refl (omega arith);
-    more = [];
-    series = series ∙ sym (append-nil first);
-    held = tt;
+    series = subst (λ (keys : List (List ℕ)). HoldsSeries first [] keys) (sym series) (holds_nothing first);
     ran = ran;
   }
 
   -- Views change nothing but their count.
-  pub holds_views : (views : ℕ) (batches : List (Snapshot (List Point))) (shard : Shard D) → views ≤ shard.settings.views
-      → Holds g WasSound start first client batches shard → Holds g WasSound start first client batches (record shard { views = views })
-  holds_views views batches shard few holds = record {
+  pub holds_views : (views : ℕ) (entries : List Entry) (shard : Shard D) → views ≤ shard.settings.views
+      → Holds g WasSound start first entries shard → Holds g WasSound start first entries (record shard { views = views })
+  holds_views views entries shard few holds = record {
     ready = record { logs = holds.ready.logs; views = few };
     state = holds.state;
-    more = holds.more;
     series = holds.series;
-    held = holds.held;
     ran = λ tells since sound. let was = holds.ran tells since sound in record { made = was.made; are = was.are; refused = was.refused; doubt = was.doubt; runs = record { logs = was.runs.logs; points = was.runs.points } };
   }
 
-  pub begins : (need : Need) (shown : Shown) (batches : List (Snapshot (List Point))) (old : Shard D) → Holds g WasSound start first client batches old → Lends need shown old
-      → Begins need shown 0 false (told_of client start first batches old) (told_of client start first batches (record old { views = old.views + 1 }))
-  begins need shown batches old holds lends = record {
-    number = lends.number ∙ ap (λ (s : State). s.number) holds.state;
-    gives = λ tells. subst (λ (s : State). Gives s.points need shown) holds.state lends.gives;
-    sound = λ tells. subst (λ (s : State). IsSound s.points) holds.state lends.sound;
-    timed = λ tells. subst (λ (s : State). All (λ point. IsMoment point.0.time) s.points) holds.state lends.timed;
-    own = refl;
-    out = one_out old.views;
-    told_is_whole = λ tells. refl;
-    unlimited_is_whole = λ none. refl;
-  }
-
-  pub ended : (views : ℕ) (batches : List (Snapshot (List Point))) (old : Shard D) → old.views ≡ views + 1
-      → Ends 0 (told_of client start first batches old) (told_of client start first batches (record old { views = views }))
-  ended views batches old is = record {
-    own = refl;
-    out = sym (ap (λ (n : ℕ). without 0 (replicate {A = ℕ} n 0)) is ∙ ap (λ (l : List ℕ). without 0 l) (one_out views));
-  }
-
   -- A refusal leaves the entries.
-  pub holds_same : (batches : List (Snapshot (List Point))) (old new : Shard D) (points : List Point) (Fault : Type 0) → Holds g WasSound start first client batches old
-      → state_of new ≡ state_of old → steps.Keeps old new → IsReady g new
-      → (IsTrue g.tells → (start : State) (since : ℕ) (made : List Made) (refused : List Entry) (doubt : Option Entry) → Runs g old start since made refused doubt
-      → (tried : List Entry) × (left : Option Entry) × steps.IsTried Fault (Write client points) refused doubt tried left × Runs g new start since made tried left)
-      → Holds g WasSound start first client batches new
-  holds_same batches old new points Fault holds same kept ready stays = record {
+  pub holds_same : (entries : List Entry) (old new : Shard D) (tried : Entry) (Fault : Type 0) → Holds g WasSound start first entries old
+      → MakesNone old new → IsReady g new → StaysBehind g Fault tried old new → Holds g WasSound start first entries new
+  holds_same entries old new tried Fault holds none ready stays = record {
     ready = ready;
-    state = same ∙ holds.state;
-    more = holds.more ++ kept.more;
-    series = kept.series ∙ ap (λ (l : List (List ℕ)). l ++ kept.more) holds.series ∙ append_assoc first holds.more kept.more;
-    held = subst (λ (l : List (List ℕ)). AllByRecursion (λ (batch : Snapshot (List Point)). AreHeld l batch.value) batches) (sym kept.series) (all_longer old.logs.series.keys kept.more batches holds.held);
+    state = none.state ∙ holds.state;
+    series = holds_grown first old.logs.series.keys none.more new.logs.series.keys entries holds.series none.series;
     ran = λ tells since sound.
         let was = holds.ran tells since sound in
         let now = stays tells start since was.made was.refused was.doubt was.runs in
@@ -152,147 +221,160 @@ module _ {D R W : Type 0} (g : Ghosts D R W) (WasSound : ℕ → Type 0) (start 
   }
 
   -- An entry more.
-  pub holds_more : (batches more : List (Snapshot (List Point))) (one : Snapshot (List Point)) (old new : Shard D) (points : List Point) (number : ℕ) → Holds g WasSound start first client batches old
-      → steps.Adds client points number old new → steps.Keeps old new → IsReady g new
-      → (IsTrue g.tells → (start : State) (since : ℕ) (made : List Made) (refused : List Entry) (doubt : Option Entry) → Runs g old start since made refused doubt
-      → Runs g new start since (made ++ record { entry = Write client points; moment = (g.crashes new.logs.disk).moment } ∷ []) refused None)
-      → one.value ≡ points → more ≡ batches ++ one ∷ []
-      → Holds g WasSound start first client more new
-  holds_more batches more one old new points number holds adds kept ready goes value is = record {
+  pub holds_more : (entries more : List Entry) (made : Entry) (number : ℕ) (old new : Shard D) → Holds g WasSound start first entries old
+      → MakesEntry made number old new → IsReady g new → GoesTo g made old new → more ≡ entries ++ made ∷ [] → Holds g WasSound start first more new
+  holds_more entries more made number old new holds makes ready goes is = subst (λ (es : List Entry). Holds g WasSound start first es new) (sym is) (record {
     ready = ready;
-    state = adds.state ∙ ap (λ (s : State). state_after s (Write client points ∷ [])) holds.state ∙ sym (state_after-append start (entries_of client batches) (Write client points ∷ []))
-        ∙ ap (λ (es : List Entry). state_after start es) (sym history);
-    more = holds.more ++ kept.more;
-    series = kept.series ∙ ap (λ (l : List (List ℕ)). l ++ kept.more) holds.series ∙ append_assoc first holds.more kept.more;
-    held = subst (λ (bs : List (Snapshot (List Point))). AllByRecursion (λ (batch : Snapshot (List Point)). AreHeld new.logs.series.keys batch.value) bs) (sym is)
-        (all_pushed new.logs.series.keys batches one
-        (subst (λ (l : List (List ℕ)). AllByRecursion (λ (batch : Snapshot (List Point)). AreHeld l batch.value) batches) (sym kept.series) (all_longer old.logs.series.keys kept.more batches holds.held))
-        (subst (λ (ps : List Point). AreHeld new.logs.series.keys ps) (sym value) adds.held));
+    state = makes.state ∙ ap (λ (s : State). state_after s (made ∷ [])) holds.state ∙ sym (state_after-append start entries (made ∷ []));
+    series = holds_then first old.logs.series.keys new.logs.series.keys entries (made ∷ []) holds.series makes.series;
     ran = λ tells since sound.
         let was = holds.ran tells since sound in
-        let last : Made = record { entry = Write client points; moment = (g.crashes new.logs.disk).moment } in
+        let last : Made = record { entry = made; moment = (g.crashes new.logs.disk).moment } in
         record {
           made = was.made ++ last ∷ [];
-          are = made-last was.made last ∙ ap (λ (es : List Entry). es ++ Write client points ∷ []) was.are ∙ sym history;
+          are = made-last was.made last ∙ ap (λ (es : List Entry). es ++ made ∷ []) was.are;
           refused = was.refused;
           doubt = None;
           runs = goes tells start since was.made was.refused was.doubt was.runs;
         };
-  }
-    where
-      history : entries_of client more ≡ entries_of client batches ++ Write client points ∷ []
-      history = ap (λ (bs : List (Snapshot (List Point))). entries_of client bs) is ∙ entries-last client batches one ∙ ap (λ (ps : List Point). entries_of client batches ++ Write client ps ∷ []) value
+  })
 
-  pub accepts : (batches more : List (Snapshot (List Point))) (one : Snapshot (List Point)) (old new : Shard D) (points : List Point) (number : ℕ) → Holds g WasSound start first client batches old
-      → steps.Adds client points number old new → steps.Keeps old new → one.value ≡ points → more ≡ batches ++ one ∷ []
-      → Accepts points number (told_of client start first batches old) (told_of client start first more new)
-  accepts batches more one old new points number holds adds kept value is = record {
-    before = entries_of client batches;
-    later = record { since = []; begins = sym (append-nil (entries_of client batches)) };
-    entry = history;
-    accepted = λ tells. subst (λ (s : State). IsAccepted s.points points) holds.state adds.accepted;
-    given = let now = counted in let len = ap length history in let sum = length-append (entries_of client batches) (Write client points ∷ []) in omega (arith, now, len, sum);
-    limit = adds.limit;
-    own = ap (λ (es : List Entry). numbers_from (start.number + 1) es) history ∙ numbers-last (start.number + 1) (entries_of client batches) (Write client points)
-        ∙ ap (λ (n : ℕ). numbers_from (start.number + 1) (entries_of client batches) ++ n ∷ []) (let now = counted in omega (arith, now));
-    out = ap (λ (n : ℕ). replicate n 0) kept.views;
-  }
-    where
-      history : entries_of client more ≡ entries_of client batches ++ Write client points ∷ []
-      history = ap (λ (bs : List (Snapshot (List Point))). entries_of client bs) is ∙ entries-last client batches one ∙ ap (λ (ps : List Point). entries_of client batches ++ Write client ps ∷ []) value
-
-      counted : number ≡ start.number + length (entries_of client batches) + 1
-      counted =
-          let a = adds.given in
-          let b = ap (λ (s : State). s.number) adds.state in
-          let c = ap (λ (s : State). s.number) holds.state in
-          omega (arith, a, b, c)
-
-  pub keeps : (batches more since' : List (Snapshot (List Point))) (old new : Shard D) → steps.Keeps old new → more ≡ batches ++ since'
-      → Keeps (told_of client start first batches old) (told_of client start first more new)
-  keeps batches more since' old new kept is = record {
-    client = refl;
-    start = refl;
-    tells = refl;
-    is_alone = refl;
-    alone = λ alone owns. refl;
-    limits = ap (λ settings. Some (record { cached = length start.points; most_cached = settings.cache_points; series = first; most_series = settings.series })) kept.settings;
-    history = record { since = entries_of client since'; begins = ap (λ (bs : List (Snapshot (List Point))). entries_of client bs) is ∙ joined batches };
-    series = let len = ap length kept.series in let sum = length-append old.logs.series.keys kept.more in omega (arith, len, sum);
-  }
-    where
-      joined : (batches : List (Snapshot (List Point))) → entries_of client (batches ++ since') ≡ entries_of client batches ++ entries_of client since'
-      joined [] = refl
-      joined (batch ∷ batches) = ap (λ (es : List Entry). Write client batch.value ∷ es) (joined batches)
-
-  pub alike : (batches : List (Snapshot (List Point))) (old new : Shard D) → steps.Keeps old new → IsAlike (told_of client start first batches old) (told_of client start first batches new)
-  alike batches old new kept = record { own = refl; out = ap (λ (n : ℕ). replicate n 0) kept.views }
-
-  -- Why a batch was refused.
-  module _ (batches : List (Snapshot (List Point))) (old new : Shard D) (points : List Point) (holds : Holds g WasSound start first client batches old) (kept : steps.Keeps old new) where
-    history : List Entry
-    history = entries_of client batches
-
-    within : (text : List ℕ) → is_among (all_texts (limits_of start first new) (entries_of client batches)) text ≡ true → is_among old.logs.series.keys text ≡ true
-    within text there = ⊎_elim
-        (λ one. ap (λ (l : List (List ℕ)). is_among l text) holds.series ∙ list_any-append (bytes_eq text) first holds.more ∙ left_true (is_among first text) (is_among holds.more text) one)
-        (λ more. held_texts old.logs.series.keys client batches holds.held text more)
-        (or_true (is_among first text) (is_among (texts_in (entries_of client batches)) text) (sym (list_any-append (bytes_eq text) first (texts_in (entries_of client batches))) ∙ there))
-
-    grown : length old.logs.series.keys ≤ length new.logs.series.keys
-    grown = let len = ap length kept.series in let sum = length-append old.logs.series.keys kept.more in omega (arith, len, sum)
-
-    is_open : steps.IsOpen points old → IsOpen points (told_of client start first batches new)
-    is_open o = record {
-      accepted = λ tells. subst (λ (s : State). IsAccepted s.points points) holds.state o.accepted;
-      number = subst (λ (s : State). s.number < last_number) holds.state o.number;
+  module _ (client : ℕ) where
+    pub begins : (need : Need) (shown : Shown) (entries : List Entry) (old : Shard D) → Holds g WasSound start first entries old → Lends need shown old
+        → Begins need shown 0 false (told_of client start first entries old) (told_of client start first entries (record old { views = old.views + 1 }))
+    begins need shown entries old holds lends = record {
+      number = lends.number ∙ ap (λ (s : State). s.number) holds.state;
+      gives = λ tells. subst (λ (s : State). Gives s.points need shown) holds.state lends.gives;
+      sound = λ tells. subst (λ (s : State). IsSound s.points) holds.state lends.sound;
+      timed = λ tells. subst (λ (s : State). All (λ point. IsMoment point.0.time) s.points) holds.state lends.timed;
+      own = refl;
+      out = one_out old.views;
+      told_is_whole = λ tells. refl;
+      unlimited_is_whole = λ none. refl;
     }
 
-    fits : steps.FitsSeries points old → FitsSeries points (told_of client start first batches new) (limits_of start first new)
-    fits f = record {
-      held = length (known_of (limits_of start first new) (entries_of client batches));
-      known = known_of (limits_of start first new) (entries_of client batches);
-      new = new_of (limits_of start first new) (entries_of client batches) points;
-      are_known = are_known (limits_of start first new) (entries_of client batches);
-      are_new = are_new (limits_of start first new) (entries_of client batches) points;
-      no_fewer = omega arith;
-      are_held = let few = known_few (limits_of start first new) (entries_of client batches) points old.logs.series.keys f.new f.are within in let more = grown in omega (arith, few, more);
-      fits =
-          let all = all_few (limits_of start first new) (entries_of client batches) points old.logs.series.keys f.new f.are within in
-          let fit = f.fits in
-          let same = ap (λ settings. settings.series) kept.settings in
-          omega (arith, all, fit, same);
+    pub ended : (views : ℕ) (entries : List Entry) (old : Shard D) → old.views ≡ views + 1
+        → Ends 0 (told_of client start first entries old) (told_of client start first entries (record old { views = views }))
+    ended views entries old is = record {
+      own = refl;
+      out = sym (ap (λ (n : ℕ). without 0 (replicate {A = ℕ} n 0)) is ∙ ap (λ (l : List ℕ). without 0 l) (one_out views));
     }
 
-    passes : (held : ℕ) → steps.PassesSeries points old → held ≡ length old.logs.series.keys → PassesSeries points held (length new.logs.series.keys) (entries_of client batches) (limits_of start first new)
-    passes held p is = record {
-      new = new_of (limits_of start first new) (entries_of client batches) points;
-      are_new = are_new (limits_of start first new) (entries_of client batches) points;
-      are_held = let more = grown in omega (arith, more, is);
-      passes =
-          let few = unheld_few (limits_of start first new) (entries_of client batches) points old.logs.series.keys p.new p.are within in
-          let past = p.passes in
-          let same = ap (λ settings. settings.series) kept.settings in
-          omega (arith, few, past, same, is);
+    pub accepts : (entries more : List Entry) (made : Entry) (number : ℕ) (old new : Shard D) → Holds g WasSound start first entries old
+        → MakesEntry made number old new → more ≡ entries ++ made ∷ [] → Accepts made number (told_of client start first entries old) (told_of client start first more new)
+    accepts entries more made number old new holds makes is = record {
+      before = entries;
+      later = record { since = []; begins = sym (append-nil entries) };
+      entry = is;
+      accepted = λ tells. subst (λ (s : State). TakesEntry s.points made) holds.state makes.taken;
+      given = let now = counted in let len = ap length is in let sum = length-append entries (made ∷ []) in omega (arith, now, len, sum);
+      limit = makes.limit;
+      own = ap (λ (es : List Entry). numbers_from (start.number + 1) es) is ∙ numbers-last (start.number + 1) entries made
+          ∙ ap (λ (n : ℕ). numbers_from (start.number + 1) entries ++ n ∷ []) (let now = counted in omega (arith, now));
+      out = ap (λ (n : ℕ). replicate n 0) makes.views;
+    }
+      where
+        counted : number ≡ start.number + length entries + 1
+        counted =
+            let a = makes.given in
+            let b = ap (λ (s : State). s.number) makes.state in
+            let c = ap (λ (s : State). s.number) holds.state in
+            omega (arith, a, b, c)
+
+    pub keeps : (entries more : List Entry) (made : Entry) (number : ℕ) (old new : Shard D) → MakesEntry made number old new → more ≡ entries ++ made ∷ []
+        → Keeps (told_of client start first entries old) (told_of client start first more new)
+    keeps entries more made number old new makes is = record {
+      client = refl;
+      start = refl;
+      tells = refl;
+      is_alone = refl;
+      alone = λ alone owns. refl;
+      limits = ap (λ settings. Some (record { cached = length start.points; most_cached = settings.cache_points; series = first; most_series = settings.series })) makes.settings;
+      history = record { since = made ∷ []; begins = is };
+      series = let len = ap length makes.series.from_start in let sum = length-append old.logs.series.keys makes.series.more in omega (arith, len, sum);
     }
 
-    cached : (held : ℕ) → held ≡ length old.live.points → old.settings.cache_points < held + length points → PassesCache points held (entries_of client batches) (limits_of start first new)
-    cached held is past = record {
-      are_held =
-          let few = few_left start.points (entries_of client batches) in
-          let now = ap (λ (s : State). length s.points) holds.state in
-          omega (arith, few, now, is);
-      passes = let same = ap (λ settings. settings.cache_points) kept.settings in omega (arith, past, same);
+    pub keeps_none : (entries : List Entry) (old new : Shard D) → MakesNone old new → Keeps (told_of client start first entries old) (told_of client start first entries new)
+    keeps_none entries old new none = record {
+      client = refl;
+      start = refl;
+      tells = refl;
+      is_alone = refl;
+      alone = λ alone owns. refl;
+      limits = ap (λ settings. Some (record { cached = length start.points; most_cached = settings.cache_points; series = first; most_series = settings.series })) none.settings;
+      history = record { since = []; begins = sym (append-nil entries) };
+      series = let len = ap length none.series in let sum = length-append old.logs.series.keys none.more in omega (arith, len, sum);
     }
 
-    pub cause : (old_health new_health : Health) (why : WriteFault) → steps.HasCause points old old_health new_health why
-        → WriteHasCause points (told_of client start first batches new) old_health new_health why
-    cause old_health new_health (fault.TypeConflict field held number) is =
-        (record { stored = old.live.points; are_told = λ tells. ap (λ (s : State). s.points) holds.state; in_conflict = is.0 }, is.1 ∙ ap (λ (s : State). s.number) holds.state)
-    cause old_health new_health fault.HistoryFull is =
-        ((λ tells. subst (λ (s : State). IsAccepted s.points points) holds.state is.0), sym (ap (λ (s : State). s.number) holds.state) ∙ is.1)
-    cause old_health new_health (fault.SeriesFull held) is = (is_open is.0, passes held is.1 is.2)
-    cause old_health new_health (fault.CacheFull held) is = (is_open is.0, fits is.1, cached held is.2 is.3)
-    cause old_health new_health fault.Memory is = tt
-    cause old_health new_health fault.Fault is =
-        (is.0, is_open is.1, fits is.2, (let same = ap (λ settings. settings.cache_points) kept.settings in let few = is.3 in omega (arith, same, few)))
+    pub alike : (entries : List Entry) (old new : Shard D) → MakesNone old new → IsAlike (told_of client start first entries old) (told_of client start first entries new)
+    alike entries old new none = record { own = refl; out = ap (λ (n : ℕ). replicate n 0) none.views }
+
+    -- Why a deletion was refused.
+    pub delete_cause : (entries : List Entry) (old new : Shard D) → Holds g WasSound start first entries old → (old_health new_health : Health) (why : DeleteFault)
+        → deleting.HasCause old old_health new_health why → DeleteHasCause (told_of client start first entries new) old_health new_health why
+    delete_cause entries old new holds old_health new_health delete_fault.HistoryFull is = sym (ap (λ (s : State). s.number) holds.state) ∙ is
+    delete_cause entries old new holds old_health new_health delete_fault.Memory is = tt
+    delete_cause entries old new holds old_health new_health delete_fault.Fault is = (is.0, subst (λ (s : State). s.number < last_number) holds.state is.1)
+
+    -- Why a batch was refused.
+    module _ (entries : List Entry) (old new : Shard D) (points : List Point) (holds : Holds g WasSound start first entries old) (kept : steps.Keeps old new) where
+      within : (text : List ℕ) → is_among (all_texts (limits_of start first new) entries) text ≡ true → is_among old.logs.series.keys text ≡ true
+      within = within_held first old.logs.series.keys entries holds.series
+
+      grown : length old.logs.series.keys ≤ length new.logs.series.keys
+      grown = let len = ap length kept.series in let sum = length-append old.logs.series.keys kept.more in omega (arith, len, sum)
+
+      is_open : steps.IsOpen points old → IsOpen points (told_of client start first entries new)
+      is_open o = record {
+        accepted = λ tells. subst (λ (s : State). IsAccepted s.points points) holds.state o.accepted;
+        number = subst (λ (s : State). s.number < last_number) holds.state o.number;
+      }
+
+      fits : steps.FitsSeries points old → FitsSeries points (told_of client start first entries new) (limits_of start first new)
+      fits f = record {
+        held = length (known_of (limits_of start first new) entries);
+        known = known_of (limits_of start first new) entries;
+        new = new_of (limits_of start first new) entries points;
+        are_known = are_known (limits_of start first new) entries;
+        are_new = are_new (limits_of start first new) entries points;
+        no_fewer = omega arith;
+        are_held = let few = known_few (limits_of start first new) entries points old.logs.series.keys f.new f.are within in let more = grown in omega (arith, few, more);
+        fits =
+            let all = all_few (limits_of start first new) entries points old.logs.series.keys f.new f.are within in
+            let fit = f.fits in
+            let same = ap (λ settings. settings.series) kept.settings in
+            omega (arith, all, fit, same);
+      }
+
+      passes : (held : ℕ) → steps.PassesSeries points old → held ≡ length old.logs.series.keys → PassesSeries points held (length new.logs.series.keys) entries (limits_of start first new)
+      passes held p is = record {
+        new = new_of (limits_of start first new) entries points;
+        are_new = are_new (limits_of start first new) entries points;
+        are_held = let more = grown in omega (arith, more, is);
+        passes =
+            let few = unheld_few (limits_of start first new) entries points old.logs.series.keys p.new p.are within in
+            let past = p.passes in
+            let same = ap (λ settings. settings.series) kept.settings in
+            omega (arith, few, past, same, is);
+      }
+
+      cached : (held : ℕ) → held ≡ length old.live.points → old.settings.cache_points < held + length points → PassesCache points held entries (limits_of start first new)
+      cached held is past = record {
+        are_held =
+            let few = few_left start.points entries in
+            let now = ap (λ (s : State). length s.points) holds.state in
+            omega (arith, few, now, is);
+        passes = let same = ap (λ settings. settings.cache_points) kept.settings in omega (arith, past, same);
+      }
+
+      pub cause : (old_health new_health : Health) (why : WriteFault) → steps.HasCause points old old_health new_health why
+          → WriteHasCause points (told_of client start first entries new) old_health new_health why
+      cause old_health new_health (fault.TypeConflict field held number) is =
+          (record { stored = old.live.points; are_told = λ tells. ap (λ (s : State). s.points) holds.state; in_conflict = is.0 }, is.1 ∙ ap (λ (s : State). s.number) holds.state)
+      cause old_health new_health fault.HistoryFull is =
+          ((λ tells. subst (λ (s : State). IsAccepted s.points points) holds.state is.0), sym (ap (λ (s : State). s.number) holds.state) ∙ is.1)
+      cause old_health new_health (fault.SeriesFull held) is = (is_open is.0, passes held is.1 is.2)
+      cause old_health new_health (fault.CacheFull held) is = (is_open is.0, fits is.1, cached held is.2 is.3)
+      cause old_health new_health fault.Memory is = tt
+      cause old_health new_health fault.Fault is =
+          (is.0, is_open is.1, fits is.2, (let same = ap (λ settings. settings.cache_points) kept.settings in let few = is.3 in omega (arith, same, few)))

@@ -1,14 +1,10 @@
 -- What holds of a store and its engine?
-use Rattle.std.specs.Prelude.{◌≡◌, ℕ, List, ◌++◌, Option, IsTrue}
-use Rattle.std.specs.List.{AllByRecursion}
-use Rattle.std.specs.declared.snapshot.Snapshot.{Snapshot}
+use Rattle.std.specs.Prelude.{◌≡◌, ℕ, List, ◌++◌, Any, Contains, Option, IsTrue}
 use Rattle.shard_disk.specs.declared.disk.Disk.{Ghosts}
-use Rattle.tsdb_types.specs.declared.point.Point.{Point}
 use Rattle.point_model.specs.Histories.{State, state_after}
 use Rattle.point_model.specs.declared.entry.Entry.{Entry}
-use Rattle.store_trait.specs.Plain.{entries_of}
-use Rattle.shard_state.specs.History.{Made, entries_of as entries_made}
-use Rattle.shard_state.specs.Meaning.{AreHeld}
+use Rattle.store_trait.specs.Calls.Write.{WritesSeries}
+use Rattle.shard_state.specs.History.{Made, entries_of}
 use Rattle.shard_steps.specs.Shards.{IsReady, Runs, state_of}
 use Rattle.shard_steps.specs.declared.shard.Shard.{Shard}
 
@@ -16,18 +12,22 @@ use Rattle.shard_steps.specs.declared.shard.Shard.{Shard}
 -- refused. The last that was refused may be in doubt.
 pub record HasRun {D R W : Type 0} (g : Ghosts D R W) (start : State) (since : ℕ) (history : List Entry) (shard : Shard D) : Type 0 where
   pub made : List Made
-  pub are : entries_made made ≡ history
+  pub are : entries_of made ≡ history
   pub refused : List Entry
   pub doubt : Option Entry
   pub runs : Runs g shard start since made refused doubt
 
--- The engine is ready, and its points and number are those behind the batches. It holds the series of the start and of each batch. Where
+-- The series of the start are held, and those that the entries write.
+pub record HoldsSeries (first : List (List ℕ)) (entries : List Entry) (keys : List (List ℕ)) : Type 0 where
+  pub more : List (List ℕ)
+  pub from_start : keys ≡ first ++ more
+  pub written : (text : List ℕ) → Any (WritesSeries text) entries → Contains keys text
+
+-- The engine is ready, and its points and number are those behind the entries. It holds the series of the start and of each entry. Where
 -- the disk was sound since a moment, the engine ran since then.
 pub record Holds {D R W : Type 0} (g : Ghosts D R W) (IsSound : ℕ → Type 0) (start : State) (first : List (List ℕ))
-    (client : ℕ) (batches : List (Snapshot (List Point))) (shard : Shard D) : Type 0 where
+    (entries : List Entry) (shard : Shard D) : Type 0 where
   pub ready : IsReady g shard
-  pub state : state_of shard ≡ state_after start (entries_of client batches)
-  pub more : List (List ℕ)
-  pub series : shard.logs.series.keys ≡ first ++ more
-  pub held : AllByRecursion (λ batch. AreHeld shard.logs.series.keys batch.value) batches
-  pub ran : IsTrue g.tells → (since : ℕ) → IsSound since → HasRun g start since (entries_of client batches) shard
+  pub state : state_of shard ≡ state_after start entries
+  pub series : HoldsSeries first entries shard.logs.series.keys
+  pub ran : IsTrue g.tells → (since : ℕ) → IsSound since → HasRun g start since entries shard

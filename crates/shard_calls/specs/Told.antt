@@ -1,10 +1,8 @@
 -- What does the store of one client tell, and what is seen of it?
 use Rattle.std.specs.Prelude.{ℕ, ◌+◌, true, List, length, replicate, Some}
-use Rattle.std.specs.declared.snapshot.Snapshot.{Snapshot}
 use Rattle.shard_disk.specs.Health.{Health}
-use Rattle.tsdb_types.specs.declared.point.Point.{Point}
 use Rattle.point_model.specs.Histories.{State}
-use Rattle.store_trait.specs.Plain.{entries_of}
+use Rattle.point_model.specs.declared.entry.Entry.{Entry}
 use Rattle.store_trait.specs.Told.{Limits, Told, numbers_from}
 use Rattle.shard_steps.specs.declared.shard.Shard.{Shard}
 
@@ -17,16 +15,16 @@ pub record Seen : Type 0 where
 abbrev pub limits_of : {D : Type 0} → State → List (List ℕ) → Shard D → Limits
 limits_of start first shard = record { cached = length start.points; most_cached = shard.settings.cache_points; series = first; most_series = shard.settings.series }
 
--- Its entries are the batches that it accepted, each its own and counted from the start. It has its points in memory, so it tells them.
-abbrev pub told_of : {D : Type 0} → ℕ → State → List (List ℕ) → List (Snapshot (List Point)) → Shard D → Told
-told_of client start first batches shard = record {
+-- Its entries are those that it made, each its own and counted from the start. It has its points in memory, so it tells them.
+abbrev pub told_of : {D : Type 0} → ℕ → State → List (List ℕ) → List Entry → Shard D → Told
+told_of client start first entries shard = record {
   client = client;
   start = start;
   tells = true;
   is_alone = true;
   limits = Some (limits_of start first shard);
-  history = entries_of client batches;
-  own = numbers_from (start.number + 1) (entries_of client batches);
+  history = entries;
+  own = numbers_from (start.number + 1) entries;
   series = length shard.logs.series.keys;
   out = replicate shard.views 0;
 }

@@ -1,23 +1,23 @@
 // One client's store over an engine.
-ghost use Rattle.std.specs.Prelude.{ℕ, ◌≡◌, ◌<◌, ◌++◌, [], ◌∷◌, IsTrue, vec_len, vec_capacity};
+ghost use Rattle.std.specs.Prelude.{ℕ, ◌≡◌, [], IsTrue};
 ghost use Rattle.shard_calls.specs.Holds.{HasRun};
 ghost use Rattle.shard_calls.specs.Told.{told_of};
 ghost use Rattle.shard_steps.specs.Shards.{IsReady, state_of};
 
 use crate::{EngineDisk, Site};
-use point_model::Need;
+use point_model::{Deletion, Need};
 use shard_steps::{Shard, begin_view, end_view};
 use std::alloc::Global;
 use std::marker::{Model, PhantomData};
 use std::snapshot::Snapshot;
-use store_trait::{ListView, Store, ViewFault, WriteFault};
+use store_trait::{DeleteFault, EntryNote, ListView, Store, ViewFault, WriteFault, add_note};
 use tsdb_types::Batch;
 
-/// An engine that one client has for itself. Its entries are the batches that it accepted, in their order. A contract sees what it
-/// tells, and the health of its disk.
+/// An engine that one client has for itself. Its entries are the batches and the deletions that it accepted, in their order. A
+/// contract sees what it tells, and the health of its disk.
 pub struct Alone<D: EngineDisk, B: Site> {
     client: u32,
-    batches: Vec<Snapshot<Batch>>,
+    notes: Vec<EntryNote>,
     shard: Shard<D>,
     site: PhantomData<B>,
 }
@@ -27,14 +27,15 @@ impl<D: EngineDisk, B: Site> Model for Alone<D, B> {
     ghost use Rattle.shard_calls.specs.Told.{Seen, told_of};
     ghost use Rattle.point_model.specs.ConditionCode.{condition_code};
     ghost use Rattle.std.specs.Coded.{codes};
+    ghost use Rattle.store_trait.specs.Notes.{entries_of};
 
     ghost Value = { Seen };
 
     ghost coded = { Prim.hlevel (codes, condition_code) };
 
-    ghost view = { λ s. record { told = told_of s.client B.start B.series s.batches.items s.shard; health = D.Disk.health s.shard.logs.disk } };
+    ghost view = { λ s. record { told = told_of s.client B.start B.series (entries_of s.client s.notes.items) s.shard; health = D.Disk.health s.shard.logs.disk } };
 
-    ghost invariant = { λ s. Holds D.Disk B.is_sound B.start B.series s.client s.batches.items s.shard };
+    ghost invariant = { λ s. Holds D.Disk B.is_sound B.start B.series (entries_of s.client s.notes.items) s.shard };
 }
 
 impl<D: EngineDisk, B: Site> Alone<D, B> {
@@ -50,7 +51,7 @@ impl<D: EngineDisk, B: Site> Alone<D, B> {
     {
         Alone {
             client,
-            batches: Vec::new(alloc),
+            notes: Vec::new(alloc),
             shard,
             site: PhantomData,
         }
@@ -64,7 +65,7 @@ impl<D: EngineDisk, B: Site> Alone<D, B> {
     {
         let Alone {
             client: _,
-            batches: _batches,
+            notes: _notes,
             shard,
             site: _,
         } = self;
@@ -80,13 +81,24 @@ impl<D: EngineDisk, B: Site> Store for Alone<D, B> {
     ghost health = { λ s. s.health };
 
     fn write(&mut self, batch: &Batch) -> Result<u64, WriteFault> {
-        self.batches.reserve(1)?;
+        self.notes.reserve(1)?;
         match D::write(&mut self.shard, self.client, batch) {
             Ok(number) => {
-                note(&mut self.batches, Snapshot::of(batch));
+                add_note(&mut self.notes, EntryNote::Written(Snapshot::of(batch)));
                 Ok(number)
             }
             Err(fault) => Err(fault),
+        }
+    }
+
+    fn delete(&mut self, deletion: &Deletion) -> Result<u64, DeleteFault> {
+        self.notes.reserve(1)?;
+        match D::delete(&mut self.shard, self.client, deletion) {
+            Ok(number) => {
+                add_note(&mut self.notes, EntryNote::Deleted(Snapshot::of(deletion)));
+                Ok(number)
+            }
+            Err(refusal) => Err(refusal),
         }
     }
 
@@ -101,12 +113,4 @@ impl<D: EngineDisk, B: Site> Store for Alone<D, B> {
     fn number(&mut self) -> u64 {
         self.shard.number()
     }
-}
-
-/// Notes a batch where the room for it is there. It takes no bytes.
-fn note(batches: &mut Vec<Snapshot<Batch>>, batch: Snapshot<Batch>)
-    requires { vec_len batches.old < vec_capacity batches.old }
-    ensures { batches.new.items ≡ batches.old.items ++ batch ∷ [] }
-{
-    let _ = batches.push(batch);
 }

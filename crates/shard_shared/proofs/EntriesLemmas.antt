@@ -1,5 +1,5 @@
 -- Entries behind one another, and what a client has of an engine.
-use Rattle.std.proofs.Common.{◌≡◌, ◌∙◌, ℕ, zero, suc, ◌+◌, ◌<◌, List, [], ◌∷◌, ◌++◌, replicate, refl, sym, ap, arith, Contains}
+use Rattle.std.proofs.Common.{◌≡◌, ◌∙◌, ℕ, zero, suc, ◌+◌, ◌<◌, List, [], ◌∷◌, ◌++◌, length, replicate, refl, sym, ap, arith, Contains}
 use Rattle.history_turn.specs.Owned.{IsAmong, SameChange, weigh}
 use Rattle.point_model.specs.declared.entry.Entry.{Entry}
 use Rattle.store_trait.specs.Calls.View.{without}
@@ -18,6 +18,10 @@ made_by-append (one ∷ first) second = let m : Made = record { entry = one.entr
 pub entries_in-append : (first second : List Entered) → entries_in (first ++ second) ≡ entries_in first ++ entries_in second
 entries_in-append [] second = refl
 entries_in-append (one ∷ first) second = ap (λ (es : List Entry). one.entry ∷ es) (entries_in-append first second)
+
+pub as_many : (entries : List Entered) → length (entries_in entries) ≡ length entries
+as_many [] = refl
+as_many (entry ∷ entries) = let more = as_many entries in omega (arith, more)
 
 -- Loans.
 

@@ -1,8 +1,7 @@
 -- What a call of an engine makes of what a client's store tells.
-use Rattle.std.proofs.Common.{◌≡◌, ◌∙◌, ℕ, ◌+◌, ◌<◌, ◌≤◌, true, false, List, ◌∷◌, length, reverse, refl, sym, ap, subst, arith, All, Option, None, Some, ⊎_elim}
-use Rattle.std.specs.Str.{bytes_eq}
+use Rattle.std.proofs.Common.{◌≡◌, ◌∙◌, ℕ, ◌+◌, ◌<◌, ◌≤◌, true, false, List, [], ◌∷◌, ◌++◌, length, length-append, reverse, refl, sym, ap, subst, arith, All, Option, None, Some}
 use Rattle.std.proofs.lemmas.Bool.{false≢true}
-use Rattle.std.proofs.lemmas.List.Folds.{list_any-append}
+use Rattle.std.proofs.lemmas.List.{reverse-append}
 use Rattle.shard_disk.specs.Health.{Failed, Health}
 use Rattle.shard_disk.specs.declared.disk.Disk.{Ghosts}
 use Rattle.tsdb_types.specs.Moments.{IsMoment}
@@ -12,26 +11,33 @@ use Rattle.point_model.specs.Cursors.{Gives, Shown}
 use Rattle.point_model.specs.declared.need.Need.{Need}
 use Rattle.point_model.specs.Histories.{State, state_after}
 use Rattle.history_turn.specs.Histories.{StartsWith}
+use Rattle.point_model.specs.declared.entry.Entry.{Entry}
+use Rattle.store_trait.specs.Calls.Entry.{Accepts, TakesEntry}
 use Rattle.store_trait.specs.Calls.View.{Begins}
 use Rattle.store_trait.specs.Calls.Write.{IsOpen, FitsSeries, PassesSeries, PassesCache, WriteHasCause}
 use Rattle.store_trait.specs.Told.{Keeps, Told, last_number}
+use Rattle.store_trait.specs.Calls.Delete.{DeleteHasCause}
+use Rattle.store_trait.specs.declared.fault.DeleteFault.{DeleteFault}
+use Rattle.store_trait.specs.declared.fault.DeleteFault.TheVariants as delete_fault
 use Rattle.store_trait.specs.declared.fault.WriteFault.{WriteFault}
 use Rattle.store_trait.specs.declared.fault.WriteFault.TheVariants as fault
+use Rattle.shard_steps.specs.Calls.Delete as deleting
 use Rattle.shard_steps.specs.Calls.View.{Lends}
 use Rattle.shard_steps.specs.Calls.Write as steps
 use Rattle.shard_steps.specs.Series.{is_among}
 use Rattle.shard_steps.specs.Shards.{state_of}
 use Rattle.shard_steps.specs.declared.shard.Shard.{Shard}
 use Rattle.shard_calls.specs.Told.{limits_of}
-use Rattle.shard_calls.proofs.CountLemmas.{all_few, all_texts, are_known, are_new, contains_among, few_left, known_few, known_of, left_true, new_of, or_true, unheld_few}
-use Rattle.shard_calls.proofs.SeriesLemmas.{by_case, texts_in, written_from_among}
+use Rattle.shard_calls.proofs.CountLemmas.{all_few, all_texts, are_known, are_new, few_left, known_few, known_of, new_of, unheld_few}
+use Rattle.shard_calls.proofs.SeriesLemmas.{by_case}
+use Rattle.shard_calls.proofs.StoreLemmas.{MakesEntry, within_held}
 use Rattle.shard_shared.specs.Entries.{entries_in, views_lent}
 use Rattle.shard_shared.specs.Reaching.{ComesTo, ComesFrom}
-use Rattle.shard_shared.specs.Told.{is_steady_at, limits_at, state_at}
+use Rattle.shard_shared.specs.Told.{is_steady_at, limits_at, number_at, state_at}
 use Rattle.shard_shared.specs.declared.engine.Entered.{Entered}
 use Rattle.shard_shared.specs.declared.engine.Lent.{Lent}
 use Rattle.shard_shared.specs.declared.engine.Lent.TheVariants.{View}
-use Rattle.shard_shared.proofs.EntriesLemmas.{entries_in-append}
+use Rattle.shard_shared.proofs.EntriesLemmas.{as_many, entries_in-append}
 
 -- what a store tells, by the parts of its pass
 abbrev pub told_at : {D : Type 0} → ℕ → ℕ → Option (Shard D) → List Entered → List ℕ → List Lent → Told
@@ -68,6 +74,30 @@ module _ {D R W : Type 0} (g : Ghosts D R W) where
   reached (Some s) faults entered shard was = was.state
   reached None faults entered shard was = absurd was
 
+  -- An entry more.
+  pub accepts : (start : Option (Shard D)) (faults client series : ℕ) (made : Entry) (number : ℕ) (seen entries : List Entered) (moment : ℕ) (own : List ℕ) (loans : List Lent) (old new : Shard D)
+      → StartsWith entries seen → ComesFrom g start faults entries old → MakesEntry made number old new
+      → Accepts made number (told_at client series start seen own loans)
+      (told_at client series start (entries ++ record { entry = made; moment = moment } ∷ []) ((number_at start + length entries + 1) ∷ own) loans)
+  accepts start faults client series made number seen entries moment own loans old new more was makes =
+      let last : Entered = record { entry = made; moment = moment } in
+      let before = ap (λ (s : State). s.number) (reached start faults entries old was) in
+      let step = ap (λ (s : State). s.number) makes.state in
+      let given = makes.given in
+      let many = as_many entries in
+      let joined = ap (λ (es : List Entry). length es) (entries_in-append entries (last ∷ [])) in
+      let sum = length-append (entries_in entries) (made ∷ []) in
+      record {
+        before = entries_in entries;
+        later = record { since = entries_in more.0; begins = ap (λ (es : List Entered). entries_in es) more.1 ∙ entries_in-append seen more.0 };
+        entry = entries_in-append entries (last ∷ []);
+        accepted = λ tells. subst (λ (s : State). TakesEntry s.points made) (reached start faults entries old was) makes.taken;
+        given = omega (arith, before, step, given, joined, sum);
+        limit = makes.limit;
+        own = reverse-append ((number_at start + length entries + 1) ∷ []) own ∙ ap (λ (n : ℕ). reverse own ++ n ∷ []) (let own_is : number_at start + length entries + 1 ≡ number = omega (arith, before, step, given, many) in own_is);
+        out = refl;
+      }
+
   -- Views.
   pub begins : (start : Option (Shard D)) (faults client series : ℕ) (need : Need) (shown : Shown) (seen entries : List Entered) (own : List ℕ) (loans : List Lent) (shard : Shard D)
       → ComesFrom g start faults entries shard → Lends need shown shard
@@ -100,12 +130,7 @@ module _ {D R W : Type 0} (g : Ghosts D R W) where
   module _ (start : Shard D) (faults client series : ℕ) (points : List Point) (entered : List Entered) (own : List ℕ) (loans : List Lent) (shard : Shard D)
       (was : ComesTo g start faults entered shard) (few : length shard.logs.series.keys ≤ series) where
     within : (text : List ℕ) → is_among (all_texts (limits_of (state_of start) start.logs.series.keys start) (entries_in entered)) text ≡ true → is_among shard.logs.series.keys text ≡ true
-    within text there = ⊎_elim
-        (λ one. ap (λ (l : List (List ℕ)). is_among l text) was.series.from_start ∙ list_any-append (bytes_eq text) start.logs.series.keys was.series.more
-        ∙ left_true (is_among start.logs.series.keys text) (is_among was.series.more text) one)
-        (λ more. contains_among shard.logs.series.keys text (was.series.written text (written_from_among (entries_in entered) text more)))
-        (or_true (is_among start.logs.series.keys text) (is_among (texts_in (entries_in entered)) text)
-        (sym (list_any-append (bytes_eq text) start.logs.series.keys (texts_in (entries_in entered))) ∙ there))
+    within = within_held start.logs.series.keys shard.logs.series.keys (entries_in entered) was.series
 
     is_open : steps.IsOpen points shard → IsOpen points (told_at client series (Some start) entered own loans)
     is_open o = record {
@@ -173,3 +198,13 @@ module _ {D R W : Type 0} (g : Ghosts D R W) where
   cause (Some s) faults client series points entered own loans shard was few before after old new why fails is =
       cause_of s faults client series points entered own loans shard was few before after old new why fails is
   cause None faults client series points entered own loans shard was few before after old new why fails is = absurd was
+
+  -- Why a deletion was refused.
+  pub delete_cause : (start : Option (Shard D)) (faults client series : ℕ) (entered : List Entered) (own : List ℕ) (loans : List Lent) (shard : Shard D) → ComesFrom g start faults entered shard
+      → (before after old new : Health) (why : DeleteFault) → (why ≡ delete_fault.Fault → Failed before after → Failed old new) → deleting.HasCause shard before after why
+      → DeleteHasCause (told_at client series start entered own loans) old new why
+  delete_cause start faults client series entered own loans shard was before after old new delete_fault.HistoryFull fails is =
+      sym (ap (λ (s : State). s.number) (reached start faults entered shard was)) ∙ is
+  delete_cause start faults client series entered own loans shard was before after old new delete_fault.Memory fails is = tt
+  delete_cause start faults client series entered own loans shard was before after old new delete_fault.Fault fails is =
+      (fails refl is.0, subst (λ (s : State). s.number < last_number) (reached start faults entered shard was) is.1)

@@ -1,5 +1,5 @@
 -- What a pass knows once it has given the turn back.
-use Rattle.std.proofs.Common.{◌≡◌, ◌∙◌, ℕ, List, ◌++◌, ◌∷◌, [], append-nil, ap, subst, sym, arith, reverse, Option, Some, refl, true, false, Result, Ok, Err}
+use Rattle.std.proofs.Common.{◌≡◌, ◌∙◌, ℕ, List, ◌++◌, ◌∷◌, [], append-nil, ap, subst, sym, arith, reverse, Option, Some, refl, Bool, true, false, Result, Ok, Err}
 use Rattle.std.specs.Prelude.{IsErrOf}
 use Rattle.std.proofs.lemmas.Bool.{false≢true}
 use Rattle.shard_disk.specs.Health.{Health}
@@ -12,6 +12,8 @@ use Rattle.history_turn.specs.Views.{adding, holding, resting}
 use Rattle.history_turn.proofs.HistoriesLemmas.{starts_longer, starts_trans}
 use Rattle.store_trait.specs.Calls.View.{Begins, TakesBack}
 use Rattle.store_trait.specs.Told.{Keeps}
+use Rattle.store_trait.specs.declared.fault.DeleteFault.{DeleteFault}
+use Rattle.store_trait.specs.declared.fault.DeleteFault.TheVariants as delete_fault
 use Rattle.store_trait.specs.declared.fault.WriteFault.{WriteFault}
 use Rattle.store_trait.specs.declared.fault.WriteFault.TheVariants as fault
 use Rattle.shard_steps.specs.declared.facts.Facts.{Facts}
@@ -122,3 +124,16 @@ quiet_refusal why other is = fault_isnt why other (ap (λ (r : Result ℕ WriteF
 
 pub quiet_answer : (number : ℕ) → IsErrOf {T = ℕ} (Ok number) fault.Fault → ⊥
 quiet_answer number is = false≢true (ap (λ (r : Result ℕ WriteFault). is_fault (refusal r fault.Memory)) is)
+
+-- whether a refused deletion tells a fault
+abbrev pub tells_failure : Result ℕ DeleteFault → Bool
+tells_failure (Ok number) = false
+tells_failure (Err delete_fault.HistoryFull) = false
+tells_failure (Err delete_fault.Memory) = false
+tells_failure (Err delete_fault.Fault) = true
+
+pub quiet_deletion : (result : Result ℕ DeleteFault) → tells_failure result ≡ false → IsErrOf result delete_fault.Fault → ⊥
+quiet_deletion result other is = false≢true (sym other ∙ ap (λ (r : Result ℕ DeleteFault). tells_failure r) is)
+
+pub other_than_fault : (why : DeleteFault) → tells_failure (Err why) ≡ false → why ≡ delete_fault.Fault → ⊥
+other_than_fault why other is = false≢true (sym other ∙ ap (λ (w : DeleteFault). tells_failure (Err w)) is)

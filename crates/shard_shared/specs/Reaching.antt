@@ -1,16 +1,13 @@
 -- What has an engine come to since its history began?
-use Rattle.std.specs.Prelude.{◌≡◌, ℕ, ◌+◌, ◌≤◌, min, List, [], ◌++◌, Any, Contains, Option, Some, None, IsTrue}
+use Rattle.std.specs.Prelude.{◌≡◌, ℕ, ◌+◌, ◌≤◌, min, List, [], Option, Some, None, IsTrue}
 use Rattle.shard_disk.specs.Health.{Health, Ages, last_count}
 use Rattle.shard_disk.specs.declared.disk.Disk.{Ghosts}
-use Rattle.tsdb_types.specs.declared.point.Point.{Point}
 use Rattle.point_model.specs.Histories.{State, state_after}
 use Rattle.point_model.specs.declared.entry.Entry.{Entry}
-use Rattle.point_model.specs.declared.entry.Entry.TheVariants.{Write}
-use Rattle.store_trait.specs.Calls.Write.{WritesSeries}
 use Rattle.shard_state.specs.History.{Made}
 use Rattle.shard_steps.specs.Shards.{IsReady, Runs, state_of}
 use Rattle.shard_steps.specs.declared.shard.Shard.{Shard}
-use Rattle.shard_calls.specs.Holds.{HasRun}
+use Rattle.shard_calls.specs.Holds.{HasRun, HoldsSeries}
 use Rattle.shard_shared.specs.Entries.{entries_in, made_by}
 use Rattle.shard_shared.specs.declared.engine.Entered.{Entered}
 
@@ -21,15 +18,9 @@ pub record HasFailed (start : Health) (faults : ℕ) (now : Health) : Type 0 whe
   pub counted : min (start.faults + faults) last_count ≤ now.faults
   pub quiet : faults ≡ 0 → now ≡ start
 
--- The series of the start are held, and those of each entry.
-pub record HoldsSeries (first : List (List ℕ)) (entries : List Entry) (keys : List (List ℕ)) : Type 0 where
-  pub more : List (List ℕ)
-  pub from_start : keys ≡ first ++ more
-  pub written : (text : List ℕ) → Any (WritesSeries text) entries → Contains keys text
-
--- the entry of a batch that was logged, on this disk
-abbrev pub entered_by : {D R W : Type 0} → Ghosts D R W → ℕ → List Point → Shard D → Entered
-entered_by g client points shard = record { entry = Write client points; moment = (g.crashes shard.logs.disk).moment }
+-- an entry that was logged, on this disk
+abbrev pub entered_by : {D R W : Type 0} → Ghosts D R W → Entry → Shard D → Entered
+entered_by g entry shard = record { entry = entry; moment = (g.crashes shard.logs.disk).moment }
 
 -- The engine ran from the start to exactly these entries, each logged by its moment: every crash since leaves a prefix of them,
 -- with at most one entry more, which was refused.

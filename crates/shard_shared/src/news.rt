@@ -1,11 +1,12 @@
 // What a client did while it had the turn, for the proof alone.
 ghost use Rattle.std.specs.Prelude.{◌∷◌, Some, None};
-ghost use Rattle.point_model.specs.declared.entry.Entry.TheVariants.{Write};
+ghost use Rattle.point_model.specs.declared.entry.Entry.TheVariants.{Write, Delete};
 ghost use Rattle.shard_shared.specs.declared.engine.Lent.TheVariants.{View, Fault};
 ghost use Rattle.shard_shared.specs.Entries.{without_view};
 
 use crate::Engine;
 use history_turn::News;
+use point_model::Deletion;
 use shard_calls::EngineDisk;
 use tsdb_types::Batch;
 
@@ -18,6 +19,19 @@ pub(crate) struct Wrote<'a> {
 
 impl<'a, D: EngineDisk> News<Engine<D>> for Wrote<'a> {
     ghost entry = { λ news x. Some (record { entry = Write news.client news.batch.now; moment = (D.Disk.crashes x.shard.logs.disk).moment }) };
+
+    ghost loans = { λ _ _ loans. loans };
+}
+
+/// A deletion was accepted from a client.
+#[derive(Drop)]
+pub(crate) struct Deleted<'a> {
+    pub(crate) client: u32,
+    pub(crate) deletion: &'a Deletion,
+}
+
+impl<'a, D: EngineDisk> News<Engine<D>> for Deleted<'a> {
+    ghost entry = { λ news x. Some (record { entry = Delete news.client news.deletion.now; moment = (D.Disk.crashes x.shard.logs.disk).moment }) };
 
     ghost loans = { λ _ _ loans. loans };
 }

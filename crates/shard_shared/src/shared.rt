@@ -2,16 +2,16 @@
 ghost use Rattle.std.specs.Prelude.{◌≡◌, ◌≤◌, false};
 ghost use Rattle.shard_shared.specs.Told.{is_fault};
 
-use crate::news::{Began, Ended, Failed, Wrote};
+use crate::news::{Began, Deleted, Ended, Failed, Wrote};
 use crate::{Engine, Place};
 use crossbeam_utils::Backoff;
 use history_turn::{Nothing, Pass, Turn};
-use point_model::Need;
+use point_model::{Deletion, Need};
 use shard_calls::EngineDisk;
 use shard_steps::{begin_view, end_view};
 use std::marker::PhantomData;
 use std::sync::Wait;
-use store_trait::{ListView, Store, ViewFault, WriteFault};
+use store_trait::{DeleteFault, ListView, Store, ViewFault, WriteFault};
 use tsdb_types::Batch;
 
 /// The last count of faults.
@@ -112,6 +112,39 @@ impl<'t, D: EngineDisk, R: Wait, P: Place> Store for Shared<'t, D, R, P> {
                 }
                 self.turn.give(&mut self.pass, held, &Nothing);
                 Err(fault)
+            }
+        }
+    }
+
+    /// Where no further fault could be counted, the deletion is refused for want of memory before anything is done.
+    fn delete(&mut self, deletion: &Deletion) -> Result<u64, DeleteFault> {
+        let mut held = self.turn.take(self.rt, &mut self.pass);
+        let engine = held.value();
+        if engine.faults >= LAST_FAULTS {
+            self.turn.give(&mut self.pass, held, &Nothing);
+            return Err(DeleteFault::Memory);
+        }
+        match D::delete(&mut engine.shard, self.client, deletion) {
+            Ok(number) => {
+                let deleted = Deleted {
+                    client: self.client,
+                    deletion,
+                };
+                self.turn.give(&mut self.pass, held, &deleted);
+                Ok(number)
+            }
+            Err(DeleteFault::Fault) => {
+                engine.faults += 1;
+                self.turn.give(&mut self.pass, held, &Failed);
+                Err(DeleteFault::Fault)
+            }
+            Err(DeleteFault::HistoryFull) => {
+                self.turn.give(&mut self.pass, held, &Nothing);
+                Err(DeleteFault::HistoryFull)
+            }
+            Err(DeleteFault::Memory) => {
+                self.turn.give(&mut self.pass, held, &Nothing);
+                Err(DeleteFault::Memory)
             }
         }
     }

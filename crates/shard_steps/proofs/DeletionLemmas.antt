@@ -2,7 +2,7 @@
 use Rattle.std.proofs.Common.{ℕ, refl, Err}
 use Rattle.shard_disk.specs.declared.disk.Disk.{Ghosts}
 use Rattle.point_model.specs.declared.deletion.Deletion.{Deletion}
-use Rattle.shard_steps.specs.declared.deleting.DeleteFault.{DeleteFault}
+use Rattle.store_trait.specs.declared.fault.DeleteFault.{DeleteFault}
 use Rattle.shard_steps.specs.declared.shard.Shard.{Shard}
 use Rattle.shard_steps.specs.Calls.Delete.{GoesOn, LeavesRest}
 use Rattle.shard_steps.specs.Calls.Write.IsTried.{Untouched}

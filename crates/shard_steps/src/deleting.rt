@@ -1,12 +1,10 @@
 // A deletion becomes an entry.
-ghost use Rattle.std.specs.Prelude.{◌≡◌, ◌<◌, None, IfOk, IfErr, OnErr};
+ghost use Rattle.std.specs.Prelude.{◌≡◌, None, IfOk, IfErr, OnErr};
 ghost use Rattle.shard_disk.specs.Health.{Ages};
 ghost use Rattle.point_model.specs.Deletions.{IsLoggable};
 ghost use Rattle.point_model.specs.declared.entry.Entry.TheVariants.{Delete};
 ghost use Rattle.live_points.specs.Removed.{IsRemovalOf};
 ghost use Rattle.shard_state.specs.Engine.{IsRecordOf, MayEnter};
-ghost use Rattle.wal_store.specs.Segments.{last_number};
-ghost use Rattle.shard_steps.specs.declared.deleting.DeleteFault.TheVariants as delete_fault;
 ghost use Rattle.shard_steps.specs.Calls.Delete.{AddsDeletion, GoesOn, HasCause, IsQuiet, LeavesRest};
 ghost use Rattle.shard_steps.specs.Shards.{IsReady, state_of};
 
@@ -16,30 +14,7 @@ use live_points::Removal;
 use point_model::Deletion;
 use shard_disk::{Disk, Trouble};
 use shard_state::Prepared;
-use std::alloc::AllocError;
-use thiserror::Error;
-
-/// Why a deletion was refused.
-#[derive(Clone, Copy, Debug, Error, PartialEq, Eq)]
-pub enum DeleteFault {
-    /// The last number, 9223372036854775807, is given.
-    #[error("the last number is given")]
-    HistoryFull,
-    /// There was no memory for the call.
-    #[error("out of memory")]
-    Memory,
-    /// A device failed.
-    #[error("a device failed")]
-    Fault,
-}
-
-impl From<AllocError> for DeleteFault {
-    ghost from_gives = { λ _ e. e ≡ delete_fault.Memory };
-
-    fn from(_: AllocError) -> Self {
-        DeleteFault::Memory
-    }
-}
+use store_trait::DeleteFault;
 
 /// Makes one entry of a deletion and gives its number; a deletion that meets no point is accepted like any other. All memory is taken
 /// before the log is touched: the record, and what is taken away of the points. Then the entry is added, and only then the points go.

@@ -10,7 +10,7 @@ mod unheld;
 mod view;
 mod writing;
 
-pub use deleting::{DeleteFault, delete};
+pub use deleting::delete;
 pub use facts::Facts;
 pub use settings::Settings;
 pub use shard::Shard;

@@ -8,8 +8,8 @@ use Rattle.point_model.specs.declared.entry.Entry.{Entry}
 use Rattle.point_model.specs.declared.entry.Entry.TheVariants.{Delete}
 use Rattle.shard_state.specs.History.{Made}
 use Rattle.wal_store.specs.Segments.{last_number}
-use Rattle.shard_steps.specs.declared.deleting.DeleteFault.{DeleteFault}
-use Rattle.shard_steps.specs.declared.deleting.DeleteFault.TheVariants as fault
+use Rattle.store_trait.specs.declared.fault.DeleteFault.{DeleteFault}
+use Rattle.store_trait.specs.declared.fault.DeleteFault.TheVariants as fault
 use Rattle.shard_steps.specs.declared.shard.Shard.{Shard}
 use Rattle.shard_steps.specs.Calls.Write.{IsTried}
 use Rattle.shard_steps.specs.Shards.{Runs, state_of}

@@ -1,7 +1,7 @@
 -- What the parts of a deletion say of the whole.
 use Rattle.std.proofs.Common.{arith}
 use Rattle.std.proofs.lemmas.Result.{err_from_is_err_and}
-use Rattle.shard_steps.specs.declared.deleting.DeleteFault.TheVariants.{HistoryFull}
+use Rattle.store_trait.specs.declared.fault.DeleteFault.TheVariants.{HistoryFull}
 use Rattle.shard_steps.proofs.DeletionLemmas.{rests, still}
 use Rattle.shard_steps.proofs.deleting.delete.Goals as goal
 

@@ -1,11 +1,13 @@
 -- The engine comes to one entry more, or stays at the same.
 use Rattle.std.proofs.Common.{◌∙◌, ◌+◌, ◌≤◌, ◌++◌, ◌∷◌, [], List, length, ap, sym, subst, refl, arith}
+use Rattle.point_model.specs.declared.entry.Entry.TheVariants.{Write}
 use Rattle.history_turn.proofs.HistoriesLemmas.{starts_longer}
 use Rattle.store_trait.specs.Calls.Write.{WriteHasCause}
 use Rattle.store_trait.specs.Told.{Keeps}
 use Rattle.store_trait.specs.declared.fault.WriteFault.{WriteFault}
 use Rattle.shard_steps.specs.Calls.Write.{HasCause}
 use Rattle.shard_steps.specs.declared.facts.Facts.{Facts}
+use Rattle.shard_calls.proofs.StoreLemmas.{write_makes, write_makes_none}
 use Rattle.shard_shared.specs.Entries.{faults_lent}
 use Rattle.shard_shared.specs.Reaching.{entered_by}
 use Rattle.shard_shared.specs.Told.{EngineView, health_by, is_steady_at, told_over}
@@ -23,9 +25,9 @@ give-requires-in-Ok-clause-stands g c =
     let old = c.value-engine.result.now in
     let start = c.args.self.now.pass.view.start in
     rw (ap (λ (p : Pass g.row.D.Denot). p.view.start) taken.now, ap (λ (p : Pass g.row.D.Denot). p.view.seen) taken.now)
-    (from_any g.D.Disk start old.faults old.faults taken.entries (taken.entries ++ entered_by g.D.Disk c.args.self.now.client c.args.batch.now c.write.new.shard ∷ []) old.shard c.write.new.shard
-    (λ s was. reaches_more g.D.Disk s c.args.self.now.client c.in-Ok.number old.faults c.args.batch.now taken.entries old.shard c.write.new.shard
-    c.in-Ok.ensures.ok c.write.ensures.kept c.write.ensures.ready c.write.ensures.goes_on.handed_out (c.in-Ok.ensures.quiet (quiet_answer c.in-Ok.number)) c.in-Ok.ensures.goes_on.ok was)
+    (from_any g.D.Disk start old.faults old.faults taken.entries (taken.entries ++ entered_by g.D.Disk (Write c.args.self.now.client c.args.batch.now) c.write.new.shard ∷ []) old.shard c.write.new.shard
+    (λ s was. reaches_more g.D.Disk s (Write c.args.self.now.client c.args.batch.now) c.in-Ok.number old.faults taken.entries old.shard c.write.new.shard
+    (write_makes c.args.self.now.client c.in-Ok.number c.args.batch.now old.shard c.write.new.shard c.in-Ok.ensures.ok c.write.ensures.kept) c.write.ensures.ready c.write.ensures.goes_on.handed_out (c.in-Ok.ensures.quiet (quiet_answer c.in-Ok.number)) c.in-Ok.ensures.goes_on.ok was)
     (lent_reaches g.D.Disk start taken.entries c.take-held.result old c.value-engine.ensures.value taken.stands_for))
 
 pub give-requires-then-tells_fault-clause-stands : goal.give-requires-then-tells_fault-clause-stands
@@ -36,8 +38,8 @@ give-requires-then-tells_fault-clause-stands g c =
     rw (ap (λ (p : Pass g.row.D.Denot). p.view.start) taken.now, ap (λ (p : Pass g.row.D.Denot). p.view.seen) taken.now)
     (none_more g.D.Disk start (old.faults + 1) taken.entries c.write.new.shard
     (from_any g.D.Disk start old.faults (old.faults + 1) taken.entries taken.entries old.shard c.write.new.shard
-    (λ s was. reaches_same g.D.Disk s c.args.self.now.client (old.faults + 1) old.faults c.args.batch.now _ taken.entries old.shard c.write.new.shard
-    c.in-Err.ensures.err c.write.ensures.kept c.write.ensures.ready c.write.ensures.goes_on.handed_out
+    (λ s was. reaches_same g.D.Disk s (Write c.args.self.now.client c.args.batch.now) (old.faults + 1) old.faults _ taken.entries old.shard c.write.new.shard
+    (write_makes_none old.shard c.write.new.shard c.in-Err.ensures.err c.write.ensures.kept) c.write.ensures.ready c.write.ensures.goes_on.handed_out
     (failed_more (g.D.Disk.health s.logs.disk) (g.D.Disk.health old.shard.logs.disk) (g.D.Disk.health c.write.new.shard.logs.disk) old.faults was.health c.write.ensures.ages (subst (λ (why : WriteFault). HasCause c.args.batch.now old.shard (g.D.Disk.health old.shard.logs.disk) (g.D.Disk.health c.write.new.shard.logs.disk) why) (fault_is c.in-Err.fault (sym c.tells_fault.ensures ∙ c.if-tells_fault.true)) c.in-Err.ensures.refused).0)
     c.in-Err.ensures.goes_on.stays was)
     (lent_reaches g.D.Disk start taken.entries c.take-held.result old c.value-engine.ensures.value taken.stands_for)))
@@ -57,8 +59,8 @@ give-requires-in-Err-clause-stands g c =
     rw (ap (λ (p : Pass g.row.D.Denot). p.view.start) taken.now, ap (λ (p : Pass g.row.D.Denot). p.view.seen) taken.now)
     (none_more g.D.Disk start old.faults taken.entries c.write.new.shard
     (from_any g.D.Disk start old.faults old.faults taken.entries taken.entries old.shard c.write.new.shard
-    (λ s was. reaches_same g.D.Disk s c.args.self.now.client old.faults old.faults c.args.batch.now _ taken.entries old.shard c.write.new.shard
-    c.in-Err.ensures.err c.write.ensures.kept c.write.ensures.ready c.write.ensures.goes_on.handed_out
+    (λ s was. reaches_same g.D.Disk s (Write c.args.self.now.client c.args.batch.now) old.faults old.faults _ taken.entries old.shard c.write.new.shard
+    (write_makes_none old.shard c.write.new.shard c.in-Err.ensures.err c.write.ensures.kept) c.write.ensures.ready c.write.ensures.goes_on.handed_out
     (failed_same (g.D.Disk.health s.logs.disk) (g.D.Disk.health old.shard.logs.disk) (g.D.Disk.health c.write.new.shard.logs.disk) old.faults was.health
     (c.in-Err.ensures.quiet (quiet_refusal c.in-Err.fault (sym c.tells_fault.ensures ∙ c.if-tells_fault.false))))
     c.in-Err.ensures.goes_on.stays was)
