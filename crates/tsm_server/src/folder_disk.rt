@@ -4,11 +4,12 @@ ghost use Rattle.std.specs.FinMap as map;
 ghost use Rattle.host_disk.specs.Untold.{never, untold, untold_now, untold_since};
 
 use host_disk::{HostDisk, HostFolder, HostReader, HostWriter};
+use point_model::Deletion;
 use shard_calls::EngineDisk;
 use shard_disk::{Disk, Fault, Trouble};
 use shard_steps::Shard;
 use std::fs::File;
-use store_trait::WriteFault;
+use store_trait::{DeleteFault, WriteFault};
 use tsdb_types::Batch;
 
 /// The disk of a folder: `HostDisk` as a type without parameters, which a desk can name as its disk. Each call is that disk's.
@@ -109,5 +110,13 @@ impl Disk for FolderDisk {
 impl EngineDisk for FolderDisk {
     fn write(shard: &mut Shard<FolderDisk>, client: u32, batch: &Batch) -> Result<u64, WriteFault> {
         shard_steps::write(shard, client, batch)
+    }
+
+    fn delete(
+        shard: &mut Shard<FolderDisk>,
+        client: u32,
+        deletion: &Deletion,
+    ) -> Result<u64, DeleteFault> {
+        shard_steps::delete(shard, client, deletion)
     }
 }

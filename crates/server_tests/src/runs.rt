@@ -1,10 +1,4 @@
-//! Runs of the program, over desks in memory and over files of the system.
-mod directories;
-mod faults;
-mod files;
-mod rows;
-
-use crate::{OpenGate, tsmd};
+//! Runs of the program over a desk in memory that holds one client.
 use mem_disk::MemDisk;
 use session_io::{Client, Closed, Desk, MemClock, MemDesk, MemSink, MemSource, Word};
 use std::alloc::{AllocError, Global};
@@ -12,17 +6,18 @@ use std::random::RandomSource;
 use std::sync::Wait;
 use std::thread::Threads;
 use tsdb_types::Time;
+use tsm_server::{OpenGate, tsmd};
 
 /// What a run answered, printed and wrote to its client.
 #[derive(Drop)]
-struct Outcome {
-    status: u8,
-    printed: String,
-    replies: String,
+pub(crate) struct Outcome {
+    pub(crate) status: u8,
+    pub(crate) printed: String,
+    pub(crate) replies: String,
 }
 
 /// A desk that holds one client, of `in` and `out`, whose reads and writes at these places fail.
-fn desk(
+pub(crate) fn desk(
     alloc: Global,
     input: &str,
     failing_reads: &[u64],
@@ -32,7 +27,7 @@ fn desk(
 }
 
 /// The same, where the client's clock tells these moments and then the last of them.
-fn desk_at(
+pub(crate) fn desk_at(
     alloc: Global,
     input: &str,
     failing_reads: &[u64],
@@ -55,7 +50,7 @@ fn desk_at(
     Ok(MemDesk::new(alloc, Vec::new(alloc), clients, Vec::new(alloc)))
 }
 
-fn words_of(alloc: Global, texts: &[&str]) -> Result<Vec<Word>, AllocError> {
+pub(crate) fn words_of(alloc: Global, texts: &[&str]) -> Result<Vec<Word>, AllocError> {
     let mut words = Vec::new(alloc);
     for text in texts {
         words.push(Word {
@@ -66,7 +61,7 @@ fn words_of(alloc: Global, texts: &[&str]) -> Result<Vec<Word>, AllocError> {
 }
 
 /// Runs the program with these words over the desk.
-fn run<R: RandomSource + Threads + Wait + Sync>(
+pub(crate) fn run<R: RandomSource + Threads + Wait + Sync>(
     rt: &R,
     alloc: Global,
     texts: &[&str],
@@ -89,6 +84,6 @@ fn run<R: RandomSource + Threads + Wait + Sync>(
     })
 }
 
-fn text_of(bytes: &[u8]) -> &str {
+pub(crate) fn text_of(bytes: &[u8]) -> &str {
     std::str::from_utf8(bytes).unwrap_or("no text")
 }

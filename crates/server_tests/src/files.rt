@@ -1,6 +1,5 @@
 //! Runs of the program over the files of the system, all bytes compared.
-use super::words_of;
-use crate::{HostDesk, OpenGate, Output, tsmd};
+use crate::runs::words_of;
 use session_io::HostSink;
 use std::fs::File;
 use std::random::RandomSource;
@@ -8,6 +7,7 @@ use std::sync::Wait;
 use std::test::Fail;
 use std::thread::Threads;
 use std::{env, fs, io, process};
+use tsm_server::{HostDesk, OpenGate, Output, tsmd};
 
 /// A new folder of one test.
 fn room(rt: HostRuntime, name: &str) -> io::Result<String> {

@@ -1,5 +1,5 @@
 //! What requests and words are answered.
-use super::{Outcome, desk, desk_at, run};
+use crate::runs::{Outcome, desk, desk_at, run};
 use std::alloc::{AllocError, Global};
 use std::random::RandomSource;
 use std::sync::Wait;

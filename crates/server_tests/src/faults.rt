@@ -1,8 +1,8 @@
 //! What a failing desk, source or sink leaves.
-use super::{desk, run, words_of};
-use crate::{OpenGate, tsmd};
+use crate::runs::{desk, run, words_of};
 use session_io::MemSink;
 use std::test::Fail;
+use tsm_server::{OpenGate, tsmd};
 
 const INPUT: &str = "INSERT cpu v=1i 10\nINSERT cpu v=2i 20\nSELECT v FROM cpu";
 
