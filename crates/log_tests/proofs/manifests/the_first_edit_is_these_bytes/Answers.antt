@@ -3,11 +3,8 @@ use Rattle.log_tests.proofs.FirstLemmas.{no_files, first_may, first_writable}
 use Rattle.manifest_log.proofs.BeginLemmas.{begun_stands}
 use Rattle.log_tests.proofs.manifests.the_first_edit_is_these_bytes.Goals as goal
 
-pub begin-requires-clause-fresh : goal.begin-requires-clause-fresh
-begin-requires-clause-fresh g c κs = λ tells. inl (no_files _ c.new-disk.ensures.empty)
-
-pub begin-requires-clause-unread : goal.begin-requires-clause-unread
-begin-requires-clause-unread g c κs = c.new-disk.ensures.no_reader
+pub begin-requires : goal.begin-requires
+begin-requires g c = λ tells. inl (no_files _ c.new-disk.ensures.empty)
 
 pub edit-requires-clause-may : goal.edit-requires-clause-may
 edit-requires-clause-may g c κs =
