@@ -1,5 +1,5 @@
 -- One history explains what the clients of several passes were told.
-use Rattle.std.proofs.Common.{◌≡◌, ◌≤◌, ◌+◌, ℕ, List, [], ◌∷◌, ◌++◌, length, map, min, All, Option, Some, None, true, reverse, refl, sym, ap, ◌∙◌, subst, arith}
+use Rattle.std.proofs.Common.{◌≡◌, ◌≤◌, ◌+◌, ℕ, List, [], ◌∷◌, ◌++◌, length, map, max, min, All, Option, Some, None, true, reverse, refl, sym, ap, ◌∙◌, subst, arith}
 use Rattle.std.specs.List.{flat_map}
 use Rattle.std.specs.Option.{option_map_or}
 use Rattle.std.proofs.lemmas.List.Elements.{All-head, All-tail}
@@ -22,11 +22,11 @@ use Rattle.history_turn.proofs.OwnedLemmas.{weigh-append}
 use Rattle.shard_calls.specs.Told.{limits_of}
 use Rattle.shard_steps.specs.Shards.{state_of}
 use Rattle.shard_steps.specs.declared.shard.Shard.{Shard}
-use Rattle.shard_shared.specs.Entries.{entries_in, faults_lent, views_lent}
+use Rattle.shard_shared.specs.Entries.{entries_in, faults_lent, most_found, views_lent}
 use Rattle.shard_shared.specs.Told.{limits_at, state_at}
 use Rattle.shard_shared.specs.declared.engine.Entered.{Entered}
 use Rattle.shard_shared.specs.declared.engine.Lent.{Lent}
-use Rattle.shard_shared.specs.declared.engine.Lent.TheVariants.{View, Fault}
+use Rattle.shard_shared.specs.declared.engine.Lent.TheVariants.{View, Fault, Found}
 use Rattle.shard_shared.proofs.EntriesLemmas.{entries_in-append}
 use Rattle.engine_session.specs.Clients.{AreSessions, Finished}
 use Rattle.engine_session.specs.Devices.{Devices, told_by}
@@ -71,11 +71,19 @@ pub faults-append : (xs ys : List Lent) → faults_lent (xs ++ ys) ≡ faults_le
 faults-append [] ys = omega arith
 faults-append (View ∷ xs) ys = faults-append xs ys
 faults-append (Fault ∷ xs) ys = let more = faults-append xs ys in omega (arith, more)
+faults-append (Found count ∷ xs) ys = faults-append xs ys
+
+pub found-append : (xs ys : List Lent) → most_found (xs ++ ys) ≡ max (most_found xs) (most_found ys)
+found-append [] ys = omega arith
+found-append (View ∷ xs) ys = found-append xs ys
+found-append (Fault ∷ xs) ys = found-append xs ys
+found-append (Found count ∷ xs) ys = let more = found-append xs ys in omega (arith, more)
 
 pub views-append : (xs ys : List Lent) → views_lent (xs ++ ys) ≡ views_lent xs ++ views_lent ys
 views-append [] ys = refl
 views-append (View ∷ xs) ys = ap (λ (l : List ℕ). 0 ∷ l) (views-append xs ys)
 views-append (Fault ∷ xs) ys = views-append xs ys
+views-append (Found count ∷ xs) ys = views-append xs ys
 
 faults_in-append : (xs ys : List Answer) → faults_in (xs ++ ys) ≡ faults_in xs + faults_in ys
 faults_in-append [] ys = omega arith
@@ -112,8 +120,8 @@ as_many (entry ∷ entries) = let more = as_many entries in omega (arith, more)
 module _ {D R W S K C : Type 0} (g : Ghosts D R W) (members : Devices S K C) where
   abbrev part_of_one : (client : ℕ) (old new : Served D S K C) → ServesOne g members client old new → Part
   part_of_one client old new one = record {
-    old = stored_by g client 0 one.before.view;
-    new = stored_by g client one.served.series one.now.view;
+    old = stored_by g client one.before.view;
+    new = stored_by g client one.now.view;
     transcript = one.served.session.transcript;
     dialogue = one.served.session.dialogue;
   }
@@ -132,7 +140,7 @@ module _ {D R W S K C : Type 0} (g : Ghosts D R W) (members : Devices S K C) whe
     whole_with held = record { start = state_of start; tells = true; limits = Some (limits_of (state_of start) start.logs.series.keys start); series = held; history = entries_in entries }
 
     is_part : (client held : ℕ) (old mid : Served D S K C) (one : ServesOne g members client (seated_with seat old) mid) → seat.view.start ≡ Some start → seat.view.own ≡ [] → StartsWith entries (seen_of mid)
-        → one.served.series ≤ held → IsPart (whole_with held) client (part_of_one client (seated_with seat old) mid one)
+        → most_found one.now.view.loans ≤ held → IsPart (whole_with held) client (part_of_one client (seated_with seat old) mid one)
     is_part client held old mid one from no_own seen few =
         let begun : one.before ≡ seat = sym (some_is seat one.before one.had) in
         let is = one.served.session.is in
@@ -157,9 +165,8 @@ module _ {D R W S K C : Type 0} (g : Ghosts D R W) (members : Devices S K C) whe
       pub left_are : map unseated mids ≡ map left_by finished
       pub are : AreSessions members (map client_of olds) finished sessions
       pub transcripts : AreTranscripts sessions (map (λ part. part.transcript) parts)
-      -- the most series that any of them found, or more
-      pub most : ℕ
-      pub are_parts : (held : ℕ) → most ≤ held → AreParts (whole_with held) client parts
+      -- of as many series as any of them found, or more
+      pub are_parts : (held : ℕ) → most_found (flat_map loans_of mids) ≤ held → AreParts (whole_with held) client parts
       pub own : (f : ℕ → ℕ) → weigh f (flat_map own_numbers (map (λ part. part.dialogue) parts)) ≡ weigh f (flat_map own_of mids)
       pub views : views_lent (flat_map loans_of mids) ≡ []
       pub faults : min (faults_in (flat_map all_answers (map (λ part. part.dialogue) parts))) last_count ≤ faults_lent (flat_map loans_of mids)
@@ -174,7 +181,6 @@ module _ {D R W S K C : Type 0} (g : Ghosts D R W) (members : Devices S K C) whe
       left_are = refl;
       are = tt;
       transcripts = tt;
-      most = 0;
       are_parts = λ held few. tt;
       own = λ f. refl;
       views = refl;
@@ -198,6 +204,8 @@ module _ {D R W S K C : Type 0} (g : Ghosts D R W) (members : Devices S K C) whe
         sym (is.own ∙ ap (λ (l : List ℕ). reverse l ++ own_numbers session.dialogue) no_owns) in
         let loans_both = faults-append (loans_of mid) (flat_map loans_of mids) in
         let faults_both = faults_in-append (all_answers session.dialogue) (flat_map all_answers (map (λ (p : Part). p.dialogue) rest.parts)) in
+        let found_both = found-append (loans_of mid) (flat_map loans_of mids) in
+        let found_here : most_found (loans_of mid) ≡ most_found one.now.view.loans = ap most_found loans_here in
         let faults_here : faults_lent (loans_of mid) ≡ faults_lent one.now.view.loans = ap faults_lent loans_here in
         let no_faults : faults_lent one.before.view.loans ≡ 0 = ap faults_lent no_loans in
         record {
@@ -219,8 +227,10 @@ module _ {D R W S K C : Type 0} (g : Ghosts D R W) (members : Devices S K C) whe
             },
             rest.transcripts,
           );
-          most = one.served.series + rest.most;
-          are_parts = λ held few. (is_part client held old mid one from no_own first (omega (arith, few)), rest.are_parts held (omega (arith, few)));
+          are_parts = λ held few. (
+            is_part client held old mid one from no_own first (omega (arith, few, found_both, found_here)),
+            rest.are_parts held (omega (arith, few, found_both)),
+          );
           own = λ f.
               let left = weigh-append f (own_numbers session.dialogue) (flat_map own_numbers (map (λ (p : Part). p.dialogue) rest.parts)) in
               let right = weigh-append f (own_of mid) (flat_map own_of mids) in
@@ -245,12 +255,12 @@ module _ {D R W S K C : Type 0} (g : Ghosts D R W) (members : Devices S K C) whe
         }
 
     -- the numbers that the passes own together are those of the entries, each once: so is each number that was told
-    abbrev pub explained : (olds mids : List (Served D S K C)) (own : List ℕ) (it : Composes 0 olds mids) → own ≡ flat_map own_of mids
+    abbrev pub explained : (held : ℕ) (olds mids : List (Served D S K C)) (own : List ℕ) (it : Composes 0 olds mids) → most_found (flat_map loans_of mids) ≤ held → own ≡ flat_map own_of mids
         → SameItems own (numbers_after (state_of start).number (length entries))
-        → ExplainedBut true (HasCause true (Some (limits_of (state_of start) start.logs.series.keys start)) it.most (state_of start)) (state_of start) (entries_in entries) (map (λ part. part.transcript) it.parts)
-    explained olds mids own it all same = record {
+        → ExplainedBut true (HasCause true (Some (limits_of (state_of start) start.logs.series.keys start)) held (state_of start)) (state_of start) (entries_in entries) (map (λ part. part.transcript) it.parts)
+    explained held olds mids own it few all same = record {
       dialogues = map (λ part. part.dialogue) it.parts;
-      told = all_told (whole_with it.most) 0 it.parts (it.are_parts it.most (omega arith));
+      told = all_told (whole_with held) 0 it.parts (it.are_parts held few);
       each_once = permuted (flat_map own_numbers (map (λ part. part.dialogue) it.parts)) (numbers_from ((state_of start).number + 1) (entries_in entries)) (record {
         same = λ f. it.own f ∙ ap (weigh f) (sym all) ∙ same.same f ∙ ap (λ (n : ℕ). weigh f (numbers_after (state_of start).number n)) (sym (as_many entries))
             ∙ sym (weigh-numbers_from f (state_of start).number (entries_in entries));

@@ -19,13 +19,14 @@ use Rattle.shard_calls.specs.Told.{limits_of}
 use Rattle.shard_state.specs.History.{Made, entries_of}
 use Rattle.shard_steps.specs.Shards.{IsReady, Runs, state_of}
 use Rattle.shard_steps.specs.declared.shard.Shard.{Shard}
-use Rattle.shard_shared.specs.Entries.{entries_in, faults_lent, lent_by, made_by, views_lent}
-use Rattle.shard_shared.specs.Reaching.{ComesFrom, ComesTo, RunsTo}
+use Rattle.shard_shared.specs.Entries.{counts_in, entries_in, faults_lent, lent_by, made_by, most_found, views_lent}
+use Rattle.shard_shared.specs.Reaching.{ComesFrom, ComesTo, RunsTo, Stands}
 use Rattle.shard_shared.specs.Told.{EngineView, number_at}
 use Rattle.shard_shared.specs.declared.engine.Engine.{Engine}
 use Rattle.shard_shared.specs.declared.engine.Entered.{Entered}
 use Rattle.shard_shared.specs.declared.engine.Lent.{Lent}
-use Rattle.shard_shared.specs.declared.engine.Lent.TheVariants.{View, Fault}
+use Rattle.shard_shared.specs.declared.engine.Lent.TheVariants.{View, Fault, Found}
+use Rattle.shard_shared.proofs.EntriesLemmas.{found_few, weigh-lent}
 use Rattle.engine_session.specs.Devices.{Devices}
 use Rattle.engine_session.specs.Serving.{AreServed}
 use Rattle.engine_clients.specs.Seats.{JoinsAll, Seat, Served, ServesOne, loans_of, own_of, seated_with, seen_of, unseated}
@@ -68,43 +69,58 @@ module _ {D R W : Type 0} (g : Ghosts D R W) where
 abbrev counted : Lent → ℕ
 counted View = 0
 counted Fault = 1
+counted (Found count) = 0
 
 faults_weigh : (loans : List Lent) → faults_lent loans ≡ weigh counted loans
 faults_weigh [] = refl
 faults_weigh (View ∷ loans) = let more = faults_weigh loans in omega (arith, more)
 faults_weigh (Fault ∷ loans) = let more = faults_weigh loans in omega (arith, more)
-
-all_faults : (faults : ℕ) → weigh counted (replicate faults Fault) ≡ faults
-all_faults zero = refl
-all_faults (suc faults) = let more = all_faults faults in omega (arith, more)
-
-lent_faults : (views faults : ℕ) → weigh counted (lent_by views faults) ≡ faults
-lent_faults zero faults = all_faults faults
-lent_faults (suc views) faults = let more = lent_faults views faults in omega (arith, more)
-
-faults_are : (loans : List Lent) (views faults : ℕ) → SameItems loans (lent_by views faults) → faults_lent loans ≡ faults
-faults_are loans views faults same = faults_weigh loans ∙ same.same counted ∙ lent_faults views faults
+faults_weigh (Found count ∷ loans) = let more = faults_weigh loans in omega (arith, more)
 
 -- 1 for a view
 abbrev viewed : Lent → ℕ
 viewed View = 1
 viewed Fault = 0
+viewed (Found count) = 0
 
 views_weigh : (loans : List Lent) → length (views_lent loans) ≡ weigh viewed loans
 views_weigh [] = refl
 views_weigh (View ∷ loans) = let more = views_weigh loans in omega (arith, more)
 views_weigh (Fault ∷ loans) = let more = views_weigh loans in omega (arith, more)
+views_weigh (Found count ∷ loans) = let more = views_weigh loans in omega (arith, more)
 
-no_views : (faults : ℕ) → weigh viewed (replicate faults Fault) ≡ 0
-no_views zero = refl
-no_views (suc faults) = let more = no_views faults in omega (arith, more)
+weigh_all : (weight : Lent → ℕ) (loan : Lent) (count : ℕ) → weight loan ≡ 1 → weigh weight (replicate count loan) ≡ count
+weigh_all weight loan zero one = refl
+weigh_all weight loan (suc count) one = let more = weigh_all weight loan count one in omega (arith, one, more)
 
-lent_views : (views faults : ℕ) → weigh viewed (lent_by views faults) ≡ views
-lent_views zero faults = no_views faults
-lent_views (suc views) faults = let more = lent_views views faults in omega (arith, more)
+weigh_none : (weight : Lent → ℕ) (loan : Lent) (count : ℕ) → weight loan ≡ 0 → weigh weight (replicate count loan) ≡ 0
+weigh_none weight loan zero none = refl
+weigh_none weight loan (suc count) none = let more = weigh_none weight loan count none in omega (arith, none, more)
 
-none_out : (loans : List Lent) (views faults : ℕ) → SameItems loans (lent_by views faults) → views_lent loans ≡ [] → views ≡ 0
-none_out loans views faults same none = sym (lent_views views faults) ∙ sym (same.same viewed) ∙ sym (views_weigh loans) ∙ ap (λ (l : List ℕ). length l) none
+weigh_counts : (weight : Lent → ℕ) (counts : List ℕ) → ((count : ℕ) → weight (Found count) ≡ 0) → weigh weight (map Found counts) ≡ 0
+weigh_counts weight [] none = refl
+weigh_counts weight (count ∷ counts) none = let one = none count in let more = weigh_counts weight counts none in omega (arith, one, more)
+
+faults_are : (loans : List Lent) (views faults : ℕ) (counts : List ℕ) → SameItems loans (lent_by views faults counts) → faults_lent loans ≡ faults
+faults_are loans views faults counts same =
+    let here = faults_weigh loans in
+    let all = same.same counted in
+    let whole = weigh-lent counted views faults counts in
+    let a = weigh_none counted View views refl in
+    let b = weigh_all counted Fault faults refl in
+    let c = weigh_counts counted counts (λ count. refl) in
+    omega (arith, here, all, whole, a, b, c)
+
+none_out : (loans : List Lent) (views faults : ℕ) (counts : List ℕ) → SameItems loans (lent_by views faults counts) → views_lent loans ≡ [] → views ≡ 0
+none_out loans views faults counts same none =
+    let here = views_weigh loans in
+    let empty = ap (λ (l : List ℕ). length l) none in
+    let all = same.same viewed in
+    let whole = weigh-lent viewed views faults counts in
+    let a = weigh_all viewed View views refl in
+    let b = weigh_none viewed Fault faults refl in
+    let c = weigh_counts viewed counts (λ count. refl) in
+    omega (arith, here, empty, all, whole, a, b, c)
 
 capped : (start told count now last : ℕ) → min told last ≤ count → min (start + count) last ≤ now → min (start + told) last ≤ now
 capped start told count now last few rose = omega (arith, few, rose)
@@ -113,8 +129,8 @@ capped start told count now last few rose = omega (arith, few, rose)
 
 -- what closing the turn tells
 abbrev pub Closes : {D R W : Type 0} → Ghosts D R W → EngineView D → Engine D → Type 0
-Closes {D} g view left = Closed (λ (x : Engine D) (s : Option (Shard D)) (es : List Entered). ComesFrom g s x.faults es x.shard) number_at (λ (s : Option (Shard D)). 0) (λ (x : Engine D). x.faults)
-    (λ (x : Engine D). lent_by x.shard.views x.faults) view left
+Closes {D} g view left = Closed (λ (x : Engine D) (s : Option (Shard D)) (es : List Entered). Stands g s es x) number_at (λ (s : Option (Shard D)). 0) (λ (x : Engine D). x.faults)
+    (λ (x : Engine D). lent_by x.shard.views x.faults (counts_in x.found.items)) view left
 
 module _ {D R W S K C : Type 0} (g : Ghosts D R W) (members : Devices S K C) (start : Shard D) (first cut_off last : Seat D) (olds starts mids news : List (Served D S K C)) (left : Engine D) where
   -- how the passes and the clients came to the end
@@ -149,23 +165,29 @@ module _ {D R W S K C : Type 0} (g : Ghosts D R W) (members : Devices S K C) (st
 
   -- the engine told exactly the faults that its clients were told
   faults_told : (it : Comes) → faults_lent (flat_map loans_of mids) ≡ left.faults
-  faults_told it = sym (ap faults_lent (all_loans it)) ∙ faults_are last.view.loans left.shard.views left.faults it.closes.loans
+  faults_told it = sym (ap faults_lent (all_loans it)) ∙ faults_are last.view.loans left.shard.views left.faults (counts_in left.found.items) it.closes.loans
 
   comes_to : (it : Comes) → ComesTo g start left.faults it.closes.entries left.shard
-  comes_to it = subst (λ (s : Option (Shard D)). ComesFrom g s left.faults it.closes.entries left.shard) (from_start it) it.closes.stands_for
+  comes_to it = subst (λ (s : Option (Shard D)). ComesFrom g s left.faults it.closes.entries left.shard) (from_start it) it.closes.stands_for.0
+
+  -- no client was told of more series than the engine holds
+  few_found : (it : Comes) → most_found (flat_map loans_of mids) ≤ length left.shard.logs.series.keys
+  few_found it = subst (λ (l : List Lent). most_found l ≤ length left.shard.logs.series.keys) (all_loans it)
+      (found_few left.shard.views left.faults (counts_in left.found.items) left.shard.logs.series.keys last.view.loans it.closes.stands_for.1
+      (record { most = λ weight. let same = it.closes.loans.same weight in omega (arith, same) }))
 
   numbers : (it : Comes) → SameItems last.view.own (numbers_after (state_of start).number (length it.closes.entries))
   numbers it = subst (λ (s : Option (Shard D)). SameItems last.view.own (numbers_after (number_at s) (length it.closes.entries))) (from_start it) it.closes.own
 
   are_served : (it : Comes) (together : Composes g members start it.closes.entries seat 0 olds mids)
-      → AreServed together.sessions (state_of start) (limits_of (state_of start) start.logs.series.keys start) together.most (entries_in it.closes.entries) (g.health start.logs.disk) (g.health left.shard.logs.disk)
+      → AreServed together.sessions (state_of start) (limits_of (state_of start) start.logs.series.keys start) (length left.shard.logs.series.keys) (entries_in it.closes.entries) (g.health start.logs.disk) (g.health left.shard.logs.disk)
   are_served it together =
       let to = comes_to it in
       let told = faults_told it in
       record {
         transcripts = map (λ (p : Part). p.transcript) together.parts;
         are = together.transcripts;
-        explained = explained g members start it.closes.entries seat olds mids last.view.own together (all_own it) (numbers it);
+        explained = explained g members start it.closes.entries seat (length left.shard.logs.series.keys) olds mids last.view.own together (few_found it) (all_own it) (numbers it);
         ages = to.health.ages;
         faults = capped (g.health start.logs.disk).faults (faults_in (flat_map all_answers (map (λ (p : Part). p.dialogue) together.parts))) left.faults (g.health left.shard.logs.disk).faults last_count
             (subst (λ (n : ℕ). min (faults_in (flat_map all_answers (map (λ (p : Part). p.dialogue) together.parts))) last_count ≤ n) told together.faults) to.health.counted;
@@ -182,11 +204,11 @@ module _ {D R W S K C : Type 0} (g : Ghosts D R W) (members : Devices S K C) (st
         sessions = together.sessions;
         are = together.are;
         history = entries_in it.closes.entries;
-        held = together.most;
+        holds = to.series;
         served = are_served it together;
         state = to.state;
         ran = λ told since run. let ran = to.ran told since run in record { made = made_by it.closes.entries; are = refl; refused = ran.refused; doubt = ran.doubt; runs = ran.runs };
         ready = to.ready;
-        unlent = none_out last.view.loans left.shard.views left.faults it.closes.loans (ap views_lent (all_loans it) ∙ together.views);
+        unlent = none_out last.view.loans left.shard.views left.faults (counts_in left.found.items) it.closes.loans (ap views_lent (all_loans it) ∙ together.views);
         same = to.handed_out;
       }

@@ -29,14 +29,12 @@ abbrev pub Served : Type 0 → Type 0 → Type 0 → Type 0 → Type 0
 Served D S K C = Seated S K C (Seat D)
 
 -- what the store of the client of this number tells over its pass, and its health
-abbrev pub stored_by : {D R W : Type 0} → Ghosts D R W → ℕ → ℕ → EngineView D → Stored
-stored_by g client series view = record { told = told_over client series view; health = health_by g view }
+abbrev pub stored_by : {D R W : Type 0} → Ghosts D R W → ℕ → EngineView D → Stored
+stored_by g client view = record { told = told_over client view; health = health_by g view }
 
 -- The client of this number had a session over its pass, and the session's end has its cause.
 pub record IsServedBy {D R W S K C : Type 0} (g : Ghosts D R W) (members : Devices S K C) (client : ℕ) (before now : EngineView D) (old new : Client S K C) (report : Report) : Type 0 where
-  -- the most series that its writes found
-  pub series : ℕ
-  pub session : IsSession (told_by members old) (told_by members new) (stored_by g client 0 before) (stored_by g client series now) report
+  pub session : IsSession (told_by members old) (told_by members new) (stored_by g client before) (stored_by g client now) report
   pub ends : EndsBy members.ended members.source_health members.sink_health old.source new.source old.sink new.sink report
 
 -- a pass of this turn is there, and hasn't the turn

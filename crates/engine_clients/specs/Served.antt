@@ -1,10 +1,10 @@
 -- What does serving several clients over an engine come to?
-use Rattle.std.specs.Prelude.{◌≡◌, ℕ, Bool, true, false, List, [], map, Some, None, IsTrue}
+use Rattle.std.specs.Prelude.{◌≡◌, ℕ, Bool, true, false, List, [], length, map, Some, None, IsTrue}
 use Rattle.shard_disk.specs.declared.disk.Disk.{Ghosts}
 use Rattle.session_io.specs.declared.client.Client.{Client}
 use Rattle.point_model.specs.Histories.{state_after}
 use Rattle.point_model.specs.declared.entry.Entry.{Entry}
-use Rattle.shard_calls.specs.Holds.{HasRun}
+use Rattle.shard_calls.specs.Holds.{HasRun, HoldsSeries}
 use Rattle.shard_calls.specs.Told.{limits_of}
 use Rattle.shard_steps.specs.Shards.{IsReady, state_of}
 use Rattle.shard_steps.specs.declared.shard.Shard.{Shard}
@@ -24,15 +24,15 @@ module _ {D S K C : Type 0} where
   left_by finished = record { client = finished.client; report = Some finished.report; pass = None }
 
 -- Each client had a session over the engine, and its report is kept, in the order of the clients. One history explains what all of
--- them were told, and the engine stands for its start and exactly that history.
+-- them were told, no reply tells of more series than the engine holds, and it stands for its start and exactly that history.
 pub record ServesTogether {D R W S K C : Type 0} (g : Ghosts D R W) (members : Devices S K C) (start left : Shard D) (old new : List (Served D S K C)) : Type 0 where
   pub finished : List (Finished S K C)
   pub left_are : new ≡ map left_by finished
   pub sessions : List ClientSession
   pub are : AreSessions members (map client_of old) finished sessions
   pub history : List Entry
-  pub held : ℕ
-  pub served : AreServed sessions (state_of start) (limits_of (state_of start) start.logs.series.keys start) held history (g.health start.logs.disk) (g.health left.logs.disk)
+  pub holds : HoldsSeries start.logs.series.keys history left.logs.series.keys
+  pub served : AreServed sessions (state_of start) (limits_of (state_of start) start.logs.series.keys start) (length left.logs.series.keys) history (g.health start.logs.disk) (g.health left.logs.disk)
   pub state : state_of left ≡ state_after (state_of start) history
   pub ran : IsTrue g.tells → (since : ℕ) → HasRun g (state_of start) since [] start → HasRun g (state_of start) since history left
   pub ready : IsReady g left

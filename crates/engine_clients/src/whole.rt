@@ -39,7 +39,7 @@ pub(crate) fn serve_together<
     ensures ok { IfOk result (λ left. ServesTogether D.Disk (devices S.given S.left S.ended S.health K.written K.health C.moments) shard left clients.old clients.new) }
     ensures err { IfErr result (λ left. (left ≡ shard) × (clients.new ≡ clients.old)) }
 {
-    match Turn::new(alloc, Engine::new(shard)) {
+    match Turn::new(alloc, Engine::new(alloc, shard)) {
         Ok((turn, mut first)) => {
             seat_all(&turn, &mut first, clients);
             serve_each(rt, alloc, &turn, gate, clients);

@@ -15,9 +15,11 @@ use Rattle.store_trait.specs.Told.{IsAlike, Keeps, Limits, OwnsAll, Told, number
 use Rattle.engine_session.proofs.LookLemmas.{look_makes_none}
 use Rattle.session_io.specs.declared.report.Report.{Report}
 use Rattle.session_model.specs.Machine.{Answer}
-use Rattle.session_model.specs.Explained.{Dialogue, ExplainedBut, IsTold, Transcript, all_answers, own_numbers, numbers_from}
+use Rattle.session_model.specs.Replies.{accepted}
+use Rattle.session_model.specs.Explained.{Dialogue, ExplainedBut, IsTold, Records, TakePlaces, Transcript, all_answers, own_numbers, numbers_from}
 use Rattle.session_loop.specs.Sessions.{IsDialogue, IsSession, Told as Client, faults_in}
-use Rattle.session_loop.specs.Steps.{HasCause, Stored}
+use Rattle.session_loop.specs.Steps.{HasCause, HasCauseAt, Stored}
+use Rattle.session_loop.proofs.StepLemmas.{given_in}
 use Rattle.session_loop.proofs.MemoryLemmas.{same_numbers}
 use Rattle.shard_state.specs.Books.{state_in}
 use Rattle.shard_state.specs.Calls.{Closes}
@@ -26,11 +28,12 @@ use Rattle.shard_state.specs.Meaning.{Stands, StandsWithAtMost}
 use Rattle.shard_state.specs.Opening.{IsSoundAtOpening, IsSoundThroughout, IsSoundWithAtMost}
 use Rattle.gate_log.proofs.Results.{on_ok_then}
 use Rattle.shard_state.proofs.Entering.{on_err_then}
-use Rattle.shard_calls.specs.Holds.{HasRun}
+use Rattle.shard_calls.specs.Holds.{HasRun, HoldsSeries}
+use Rattle.shard_calls.proofs.StoreLemmas.{holds_nothing}
 use Rattle.shard_calls.specs.Told.{limits_of, told_of}
 use Rattle.shard_steps.specs.Shards.{state_of}
 use Rattle.shard_steps.specs.declared.shard.Shard.{Shard}
-use Rattle.engine_session.specs.Durable.{Lasts}
+use Rattle.engine_session.specs.Durable.{HasSeriesFile, Lasts}
 use Rattle.engine_session.specs.Serving.{AreServed, ClientSession, Serves}
 use Rattle.engine_session.specs.declared.serving.Ended.{Ended}
 
@@ -46,13 +49,28 @@ pub record BeginsWith (start : State) (limits : Limits) (old : Told) : Type 0 wh
   pub history : old.history ≡ []
   pub own : old.own ≡ []
 
-module _ (start : State) (limits : Limits) (old new : Stored) (transcript : Transcript) (dialogue : Dialogue) (begins : BeginsWith start limits old.told) (is : IsDialogue old new transcript dialogue) where
-  pub told : IsTold true (HasCause true (Some limits) new.told.series start) start new.told.history 0 transcript dialogue is.opening
-  told =
-      subst (λ (n : ℕ). IsTold true (HasCause true (Some limits) new.told.series start) start new.told.history n transcript dialogue is.opening) (is.kept.client ∙ begins.client)
-      (subst (λ (s : State). IsTold true (HasCause true (Some limits) new.told.series s) s new.told.history new.told.client transcript dialogue is.opening) (is.kept.start ∙ begins.begins)
-      (subst (λ (o : Option Limits). IsTold true (HasCause true o new.told.series new.told.start) new.told.start new.told.history new.told.client transcript dialogue is.opening) (is.kept.limits ∙ begins.limited)
-      (subst (λ (b : Bool). IsTold b (HasCause b new.told.limits new.told.series new.told.start) new.told.start new.told.history new.told.client transcript dialogue is.opening) (is.kept.tells ∙ begins.tells) is.told)))
+module _ (start : State) (limits : Limits) (held : ℕ) (old new : Stored) (transcript : Transcript) (dialogue : Dialogue) (begins : BeginsWith start limits old.told) (is : IsDialogue old new transcript dialogue)
+    (few : new.told.series ≤ held) where
+  -- what the store held at its end bounds what it told, and so does what is held later
+  places_in : (least : ℕ) (answers : List Answer)
+      → TakePlaces new.told.tells (HasCauseAt new.told) new.told.start new.told.history new.told.client least answers
+      → TakePlaces true (HasCause true (Some limits) held start) start new.told.history 0 least answers
+  places_in least [] places = tt
+  places_in least (answer ∷ answers) places = (
+    places.0,
+    places.1,
+    given_in new.told true (Some limits) held start new.told.history 0 answer places.0
+        (sym (is.kept.tells ∙ begins.tells)) (sym (is.kept.limits ∙ begins.limited)) few (sym (is.kept.start ∙ begins.begins))
+        (record { since = []; begins = sym (append-nil new.told.history) }) (sym (is.kept.client ∙ begins.client)) places.2,
+    places_in (places.0 + length (accepted answer.reply)) answers places.3,
+  )
+
+  pub told : IsTold true (HasCause true (Some limits) held start) start new.told.history 0 transcript dialogue is.opening
+  told = record {
+    within = is.told.within;
+    records = subst (λ (s : State). Records (s.number + is.opening) transcript dialogue) (is.kept.start ∙ begins.begins) is.told.records;
+    places = places_in is.opening (all_answers dialogue) is.told.places;
+  }
 
   pub numbers : own_numbers dialogue ≡ numbers_from (start.number + 1) new.told.history
   numbers =
@@ -61,16 +79,16 @@ module _ (start : State) (limits : Limits) (old new : Stored) (transcript : Tran
       sym (is.own ∙ ap (λ (l : List ℕ). l ++ own_numbers dialogue) begins.own) ∙ owns
       ∙ ap (λ (s : State). store_numbers (s.number + 1) new.told.history) (is.kept.start ∙ begins.begins) ∙ same_numbers (start.number + 1) new.told.history
 
-  abbrev explained : ExplainedBut true (HasCause true (Some limits) new.told.series start) start new.told.history (transcript ∷ [])
+  abbrev explained : ExplainedBut true (HasCause true (Some limits) held start) start new.told.history (transcript ∷ [])
   explained = record {
     dialogues = dialogue ∷ [];
     told = (is.opening, told, tt);
     each_once = subst (λ (l : List ℕ). IsPermutation l (numbers_from (start.number + 1) new.told.history)) (sym (append-nil (own_numbers dialogue) ∙ numbers)) (IsPermutation-refl (numbers_from (start.number + 1) new.told.history));
   }
 
-pub served_from : (start : State) (limits : Limits) (before now : Client) (old new : Stored) (report : Report) → BeginsWith start limits old.told → IsSession before now old new report
-    → AreServed (record { before = before; now = now; report = report } ∷ []) start limits new.told.series new.told.history old.health new.health
-served_from start limits before now old new report begins session =
+pub served_from : (start : State) (limits : Limits) (held : ℕ) (before now : Client) (old new : Stored) (report : Report) → BeginsWith start limits old.told → IsSession before now old new report
+    → new.told.series ≤ held → AreServed (record { before = before; now = now; report = report } ∷ []) start limits held new.told.history old.health new.health
+served_from start limits held before now old new report begins session few =
     let same = append-nil (all_answers session.dialogue) in
     record {
       transcripts = session.transcript ∷ [];
@@ -86,7 +104,7 @@ served_from start limits before now old new report begins session =
         },
         tt,
       );
-      explained = explained start limits old new session.transcript session.dialogue begins session.is;
+      explained = explained start limits held old new session.transcript session.dialogue begins session.is few;
       ages = session.is.ages;
       faults = subst (λ (l : List Answer). min (old.health.faults + faults_in l) last_count ≤ new.health.faults) (sym same) session.is.faults;
       quiet = λ none. session.is.quiet (ap (λ (l : List Answer). faults_in l) (sym same) ∙ none);
@@ -165,9 +183,13 @@ module _ {D R W : Type 0} (g : Ghosts D R W) (start : State) (since : ℕ) (hist
   lasts = lasts_either closed refl (on_ok_then closed (λ ok. ok told ran.runs.logs.books ran.doubt ran.runs.logs.holds) closes.ok)
       (on_err_then closed (λ err. err told ran.runs.logs.books ran.doubt ran.runs.logs.holds) closes.refused)
 
+  -- the series file of the closed directory
+  pub stored : HasSeriesFile (g.files disk) shard.logs.series.keys
+  stored = (shard.logs.series.log.file, closes.series told ran.runs.logs.books ran.doubt ran.runs.logs.holds)
+
 -- ---- both
 
-module _ {D R W : Type 0} (g : Ghosts D R W) (before now : Client) (start : State) (first : List (List ℕ)) (engine : Shard D) (is : state_of engine ≡ start) (held : engine.logs.series.keys ≡ first) (old new : Stored)
+module _ {D R W : Type 0} (g : Ghosts D R W) (before now : Client) (start : State) (first : List (List ℕ)) (engine : Shard D) (is : state_of engine ≡ start) (held_first : engine.logs.series.keys ≡ first) (old new : Stored)
     (told : old.told ≡ told_of 0 start first [] engine) (health : old.health ≡ g.health engine.logs.disk) (ended : Ended D) (session : IsSession before now old new ended.report) (last : Told) (kept : Keeps new.told last) (alike : IsAlike new.told last) where
   abbrev one : List ClientSession
   one = record { before = before; now = now; report = ended.report } ∷ []
@@ -175,28 +197,35 @@ module _ {D R W : Type 0} (g : Ghosts D R W) (before now : Client) (start : Stat
   begins : BeginsWith start (limits_of start first engine) old.told
   begins = begins_with start first engine old.told told
 
-  served : AreServed one (state_of engine) (limits_of (state_of engine) engine.logs.series.keys engine) new.told.series new.told.history (g.health engine.logs.disk) new.health
-  served =
-      subst (λ (h : Health). AreServed one (state_of engine) (limits_of (state_of engine) engine.logs.series.keys engine) new.told.series new.told.history h new.health) health
-      (subst (λ (s : State). AreServed one s (limits_of s engine.logs.series.keys engine) new.told.series new.told.history old.health new.health) (sym is)
-      (subst (λ (l : List (List ℕ)). AreServed one start (limits_of start l engine) new.told.series new.told.history old.health new.health) (sym held)
-      (served_from start (limits_of start first engine) before now old new ended.report begins session)))
+  served : (held : ℕ) → new.told.series ≤ held
+      → AreServed one (state_of engine) (limits_of (state_of engine) engine.logs.series.keys engine) held new.told.history (g.health engine.logs.disk) new.health
+  served held few =
+      subst (λ (h : Health). AreServed one (state_of engine) (limits_of (state_of engine) engine.logs.series.keys engine) held new.told.history h new.health) health
+      (subst (λ (s : State). AreServed one s (limits_of s engine.logs.series.keys engine) held new.told.history old.health new.health) (sym is)
+      (subst (λ (l : List (List ℕ)). AreServed one start (limits_of start l engine) held new.told.history old.health new.health) (sym held_first)
+      (served_from start (limits_of start first engine) held before now old new ended.report begins session few)))
 
   pub serves : ended.number ≡ (state_now last).number → (shard : Shard D) → (IsTrue g.tells → (since : ℕ) → HasRun g start since [] engine → HasRun g start since last.history shard)
+      → HoldsSeries first last.history shard.logs.series.keys → last.series ≡ length shard.logs.series.keys
       → Closes g shard.logs ended.disk ended.closed → new.health ≡ g.health shard.logs.disk → Serves g one engine ended.disk ended.number ended.closed
-  serves number shard ran closes left = record {
-    history = new.told.history;
-    held = new.told.series;
-    middle = new.health;
-    served = served;
-    counted = counts start (limits_of start first engine) before now old new ended.report begins session last kept alike ended.number number ∙ ap (λ (s : State). s.number + length new.told.history) (sym is);
-    lasts = λ told since first_run.
-        subst (λ (s : State). Lasts g ended.disk since s new.told.history ended.closed) (sym is)
-        (lasts g start since new.told.history shard ended.disk ended.closed closes told
-        (subst (λ (h : List Entry). HasRun g start since h shard) (same_history start (limits_of start first engine) before now old new ended.report begins session last kept alike)
-        (ran told since (subst (λ (s : State). HasRun g s since [] engine) is first_run))));
-    closing = subst (λ (h : Health). FaultHasCause ended.closed h (g.health ended.disk)) (sym left) closes.fault;
-  }
+  serves number shard ran holds_last counted_last closes left =
+      let same = same_history start (limits_of start first engine) before now old new ended.report begins session last kept alike in
+      let was_run : IsTrue g.tells → (since : ℕ) → HasRun g (state_of engine) since [] engine → HasRun g start since new.told.history shard =
+      λ told since first_run. subst (λ (h : List Entry). HasRun g start since h shard) same (ran told since (subst (λ (s : State). HasRun g s since [] engine) is first_run)) in
+      record {
+        history = new.told.history;
+        held = shard.logs.series.keys;
+        holds = subst (λ (l : List (List ℕ)). HoldsSeries l new.told.history shard.logs.series.keys) (sym held_first)
+            (subst (λ (h : List Entry). HoldsSeries first h shard.logs.series.keys) same holds_last);
+        middle = new.health;
+        served = served (length shard.logs.series.keys) (let more = kept.series in omega (arith, more, counted_last));
+        counted = counts start (limits_of start first engine) before now old new ended.report begins session last kept alike ended.number number ∙ ap (λ (s : State). s.number + length new.told.history) (sym is);
+        lasts = λ told since first_run.
+            subst (λ (s : State). Lasts g ended.disk since s new.told.history ended.closed) (sym is)
+            (lasts g start since new.told.history shard ended.disk ended.closed closes told (was_run told since first_run));
+        stored = λ told since first_run. stored g start since new.told.history shard ended.disk ended.closed closes told (was_run told since first_run);
+        closing = subst (λ (h : Health). FaultHasCause ended.closed h (g.health ended.disk)) (sym left) closes.fault;
+      }
 
 -- ---- nobody
 
@@ -204,7 +233,8 @@ module _ {D R W : Type 0} (g : Ghosts D R W) (engine : Shard D) (disk : D) (numb
   pub serves_none : number ≡ (state_of engine).number → Closes g engine.logs disk closed → Serves g [] engine disk number closed
   serves_none is closes = record {
     history = [];
-    held = 0;
+    held = engine.logs.series.keys;
+    holds = holds_nothing engine.logs.series.keys;
     middle = g.health engine.logs.disk;
     served = record {
       transcripts = [];
@@ -216,5 +246,6 @@ module _ {D R W : Type 0} (g : Ghosts D R W) (engine : Shard D) (disk : D) (numb
     };
     counted = omega (arith, is);
     lasts = λ told since run. lasts g (state_of engine) since [] engine disk closed closes told run;
+    stored = λ told since run. stored g (state_of engine) since [] engine disk closed closes told run;
     closing = closes.fault;
   }

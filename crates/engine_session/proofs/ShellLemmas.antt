@@ -1,5 +1,5 @@
 -- An engine that was opened on a disk, served clients and was closed.
-use Rattle.std.proofs.Common.{◌≡◌, ℕ, List, [], refl, ap, subst, None}
+use Rattle.std.proofs.Common.{◌≡◌, ℕ, List, [], length, refl, ap, subst, None}
 use Rattle.std.specs.Prelude.{Ok, Err, Result}
 use Rattle.shard_disk.specs.Health.{Health}
 use Rattle.shard_disk.specs.declared.disk.Disk.{Ghosts}
@@ -27,9 +27,10 @@ module _ {D R W : Type 0} (g : Ghosts D R W) (settings : Settings) (disk : D) (e
     series = engine.logs.series.keys;
     held = serves.held;
     history = serves.history;
+    holds = serves.holds;
     middle = serves.middle;
-    served = subst (λ (l : Limits). AreServed sessions (state_of engine) l serves.held serves.history (g.health disk) serves.middle) limits_are
-        (subst (λ (h : Health). AreServed sessions (state_of engine) (limits_of (state_of engine) engine.logs.series.keys engine) serves.held serves.history h serves.middle) health serves.served);
+    served = subst (λ (l : Limits). AreServed sessions (state_of engine) l (length serves.held) serves.history (g.health disk) serves.middle) limits_are
+        (subst (λ (h : Health). AreServed sessions (state_of engine) (limits_of (state_of engine) engine.logs.series.keys engine) (length serves.held) serves.history h serves.middle) health serves.served);
     counted = serves.counted;
     stood = λ told. let a = answers told in a.stood;
     is = λ told state sound.
@@ -38,6 +39,7 @@ module _ {D R W : Type 0} (g : Ghosts D R W) (settings : Settings) (disk : D) (e
         let same = one_state (g.files disk) (state_of engine) state engine.logs.series.keys stands.0 a.stood stands.1 in
         same.0;
     lasts = λ told sound. serves.lasts told (g.crashes disk).moment (record { made = []; are = refl; refused = []; doubt = None; runs = begins told (state_of engine) sound });
+    stored = λ told sound. serves.stored told (g.crashes disk).moment (record { made = []; are = refl; refused = []; doubt = None; runs = begins told (state_of engine) sound });
     closing = serves.closing;
   }
 

@@ -13,11 +13,11 @@ use Rattle.session_io.specs.Streams.{Grows, Shrinks}
 use Rattle.session_model.specs.Explained.{ExplainedBut, Transcript, all_answers}
 use Rattle.session_loop.specs.Sessions.{Told, faults_in}
 use Rattle.session_loop.specs.Steps.{HasCause}
-use Rattle.shard_calls.specs.Holds.{HasRun}
+use Rattle.shard_calls.specs.Holds.{HasRun, HoldsSeries}
 use Rattle.shard_calls.specs.Told.{limits_of}
 use Rattle.shard_steps.specs.Shards.{state_of}
 use Rattle.shard_steps.specs.declared.shard.Shard.{Shard}
-use Rattle.engine_session.specs.Durable.{Lasts}
+use Rattle.engine_session.specs.Durable.{HasSeriesFile, Lasts}
 
 -- a session of a client: what the client's devices told before and since, and its report
 pub record ClientSession : Type 0 where
@@ -55,11 +55,15 @@ pub record AreServed (sessions : List ClientSession) (start : State) (limits : L
   pub quiet : faults_in (flat_map all_answers explained.dialogues) ≡ 0 → new ≡ old
 
 -- Clients were served over an engine, which was closed: one history explains what they were told, and is what the disk was left with.
+-- No reply tells of more series than the engine held at the end: those of its start, those that the entries write, and maybe some of
+-- batches that were refused. The series file of the closed directory has them.
 pub record Serves {D R W : Type 0} (g : Ghosts D R W) (sessions : List ClientSession) (engine : Shard D) (disk : D) (number : ℕ) (closed : Result (Unit {0}) Trouble) : Type 0 where
   pub history : List Entry
-  pub held : ℕ
+  pub held : List (List ℕ)
+  pub holds : HoldsSeries engine.logs.series.keys history held
   pub middle : Health
-  pub served : AreServed sessions (state_of engine) (limits_of (state_of engine) engine.logs.series.keys engine) held history (g.health engine.logs.disk) middle
+  pub served : AreServed sessions (state_of engine) (limits_of (state_of engine) engine.logs.series.keys engine) (length held) history (g.health engine.logs.disk) middle
   pub counted : number ≡ (state_of engine).number + length history
   pub lasts : IsTrue g.tells → (since : ℕ) → HasRun g (state_of engine) since [] engine → Lasts g disk since (state_of engine) history closed
+  pub stored : IsTrue g.tells → (since : ℕ) → HasRun g (state_of engine) since [] engine → HasSeriesFile (g.files disk) held
   pub closing : FaultHasCause closed middle (g.health disk)

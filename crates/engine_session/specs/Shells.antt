@@ -19,7 +19,8 @@ use Rattle.shard_recover.specs.Damage.{IsFirstDamage}
 use Rattle.shard_recover.specs.Standing.{Stood}
 use Rattle.shard_steps.specs.declared.settings.Settings.{Settings}
 use Rattle.shard_opening.specs.Opening.{IsLeft, KeepsNamed}
-use Rattle.engine_session.specs.Durable.{Lasts}
+use Rattle.shard_calls.specs.Holds.{HoldsSeries}
+use Rattle.engine_session.specs.Durable.{HasSeriesFile, Lasts}
 use Rattle.engine_session.specs.Ends.{EndsBy}
 use Rattle.engine_session.specs.Serving.{AreServed, ClientSession}
 use Rattle.engine_session.specs.declared.directory.ShellEnd.{ShellEnd}
@@ -44,18 +45,20 @@ pub record OpensNone {D R W : Type 0} (g : Ghosts D R W) (disk disk' : D) (why :
 
 -- The directory was opened, clients were served over it, and it was closed. One history explains what all of them were told. It begins
 -- with the state and the series for which the files stood; and where the disk was sound it was left with the history, at every moment
--- since the opening began.
+-- since the opening began. No reply tells of more series than were held at the end, and the series file that was left has those.
 pub record ServesDirectory {D R W : Type 0} (g : Ghosts D R W) (settings : Settings) (disk disk' : D) (sessions : List ClientSession) (number : ℕ) (closed : Result (Unit {0}) Trouble) : Type 0 where
   pub start : State
   pub series : List (List ℕ)
-  pub held : ℕ
+  pub held : List (List ℕ)
   pub history : List Entry
+  pub holds : HoldsSeries series history held
   pub middle : Health
-  pub served : AreServed sessions start (limits_with settings start series) held history (g.health disk) middle
+  pub served : AreServed sessions start (limits_with settings start series) (length held) history (g.health disk) middle
   pub counted : number ≡ start.number + length history
   pub stood : IsTrue g.tells → Stood (g.files disk) start series
   pub is : IsTrue g.tells → (state : State) → IsSoundAtOpening g disk state → start ≡ state
   pub lasts : IsTrue g.tells → IsSoundThroughout g disk start → Lasts g disk' (g.crashes disk).moment start history closed
+  pub stored : IsTrue g.tells → IsSoundThroughout g disk start → HasSeriesFile (g.files disk') held
   pub closing : FaultHasCause closed middle (g.health disk')
 
 -- What a shell did with a directory and one client. Where the directory wasn't opened, no byte was read or written.

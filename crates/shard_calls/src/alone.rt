@@ -1,6 +1,6 @@
 // One client's store over an engine.
-ghost use Rattle.std.specs.Prelude.{ℕ, ◌≡◌, [], IsTrue};
-ghost use Rattle.shard_calls.specs.Holds.{HasRun};
+ghost use Rattle.std.specs.Prelude.{ℕ, ◌≡◌, [], length, IsTrue};
+ghost use Rattle.shard_calls.specs.Holds.{HasRun, HoldsSeries};
 ghost use Rattle.shard_calls.specs.Told.{told_of};
 ghost use Rattle.shard_steps.specs.Shards.{IsReady, state_of};
 
@@ -61,6 +61,8 @@ impl<D: EngineDisk, B: Site> Alone<D, B> {
     pub fn into_shard(self) -> Shard<D>
         ensures ready { IsReady D.Disk result }
         ensures ran { IsTrue D.Disk.tells → (since : ℕ) → B.is_sound since → HasRun D.Disk B.start since self.told.history result }
+        ensures holds { HoldsSeries B.series self.told.history result.logs.series.keys }
+        ensures series { self.told.series ≡ length result.logs.series.keys }
         ensures health { self.health ≡ D.Disk.health result.logs.disk }
     {
         let Alone {

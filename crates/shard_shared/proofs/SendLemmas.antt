@@ -4,7 +4,10 @@ use Rattle.std.proofs.Crossing.{frees}
 use Rattle.std.proofs.alloc.Global.TheSendSync as heap
 use Rattle.std.proofs.collections.BTreeMap.TheSendSync as map
 use Rattle.std.proofs.collections.BTreeSet.TheSendSync as set
+use Rattle.std.specs.contracts.impls.GlobalAllocator.TheImpl as global
+use Rattle.std.specs.contracts.snapshot.Snapshot as snapshot
 use Rattle.std.proofs.sync.Arc.TheSendSync as arc
+use Rattle.std.proofs.vec.Vec.TheSendSync as vec
 use Rattle.tsdb_types.proofs.name.Name.TheSendSync as name
 use Rattle.tsdb_types.proofs.series.SeriesKey.TheSendSync as series
 use Rattle.store_trait.proofs.heading.Heading.TheSendSync as heading
@@ -22,7 +25,8 @@ use Rattle.shard_steps.specs.contracts.shard.Shard as shard
 use Rattle.shard_shared.specs.contracts.engine.Engine as engine
 use denote.RattleType.{RattleType}
 use denote.Struct.Declared.{shape}
-use denote.Param.Send.{IsSend, sendable, struct_send, recorded_send, view_send}
+use denote.Builtin.{u64}
+use denote.Param.Send.{IsSend, owning_send, sendable, struct_send, recorded_send, view_send}
 
 pub cache_send : IsSend cache.the_row
 cache_send = view_send cache_inside.the_row _ _ _ _ (recorded_send (cache_inside.the_field).row _ _ (cache_inside.the_type).to_one (struct_send (shape cache_inside.the_type)
@@ -44,5 +48,9 @@ shard_field_send D d = struct_send (shape (shard.the_type D))
 pub shard_send : (D : RattleType) → IsSend D → IsSend (shard.the_row D)
 shard_send D d = recorded_send (shard.the_field D).row _ _ (shard.the_type D).to_one (shard_field_send D d)
 
+-- a note has no bytes
+note_send : IsSend (snapshot.the_row u64)
+note_send = owning_send (snapshot.the_type u64) (search sendable, tt) (λ d. tt) (λ k x w. tt)
+
 pub engine_send : (D : RattleType) → IsSend D → IsSend (engine.the_row D)
-engine_send D d = recorded_send (engine.the_field D).row _ _ (engine.the_type D).to_one (struct_send (shape (engine.the_type D)) (shard_field_send D d, (search sendable, tt)))
+engine_send D d = recorded_send (engine.the_field D).row _ _ (engine.the_type D).to_one (struct_send (shape (engine.the_type D)) (shard_field_send D d, (search sendable, (vec.the_send _ _ global.ghosts note_send heap.the_send (search frees), tt))))

@@ -31,7 +31,7 @@ use Rattle.shard_calls.specs.Told.{limits_of}
 use Rattle.shard_calls.proofs.CountLemmas.{all_few, all_texts, are_known, are_new, few_left, known_few, known_of, new_of, unheld_few}
 use Rattle.shard_calls.proofs.SeriesLemmas.{by_case}
 use Rattle.shard_calls.proofs.StoreLemmas.{MakesEntry, within_held}
-use Rattle.shard_shared.specs.Entries.{entries_in, views_lent}
+use Rattle.shard_shared.specs.Entries.{entries_in, most_found, views_lent}
 use Rattle.shard_shared.specs.Reaching.{ComesTo, ComesFrom}
 use Rattle.shard_shared.specs.Told.{is_steady_at, limits_at, number_at, state_at}
 use Rattle.shard_shared.specs.declared.engine.Entered.{Entered}
@@ -40,8 +40,8 @@ use Rattle.shard_shared.specs.declared.engine.Lent.TheVariants.{View}
 use Rattle.shard_shared.proofs.EntriesLemmas.{as_many, entries_in-append}
 
 -- what a store tells, by the parts of its pass
-abbrev pub told_at : {D : Type 0} → ℕ → ℕ → Option (Shard D) → List Entered → List ℕ → List Lent → Told
-told_at client series start seen own loans = record {
+abbrev pub told_at : {D : Type 0} → ℕ → Option (Shard D) → List Entered → List ℕ → List Lent → Told
+told_at client start seen own loans = record {
   client = client;
   start = state_at start;
   tells = true;
@@ -49,15 +49,15 @@ told_at client series start seen own loans = record {
   limits = limits_at start;
   history = entries_in seen;
   own = reverse own;
-  series = series;
+  series = most_found loans;
   out = views_lent loans;
 }
 
 module _ {D : Type 0} (client : ℕ) (start : Option (Shard D)) where
   -- What every call keeps.
-  pub keeps : (series count : ℕ) (seen entries : List Entered) (own now : List ℕ) (loans left : List Lent) → StartsWith entries seen → series ≤ count
-      → Keeps (told_at client series start seen own loans) (told_at client count start entries now left)
-  keeps series count seen entries own now loans left more few = record {
+  pub keeps : (seen entries : List Entered) (own now : List ℕ) (loans left : List Lent) → StartsWith entries seen → most_found loans ≤ most_found left
+      → Keeps (told_at client start seen own loans) (told_at client start entries now left)
+  keeps seen entries own now loans left more few = record {
     client = refl;
     start = refl;
     tells = refl;
@@ -75,11 +75,11 @@ module _ {D R W : Type 0} (g : Ghosts D R W) where
   reached None faults entered shard was = absurd was
 
   -- An entry more.
-  pub accepts : (start : Option (Shard D)) (faults client series : ℕ) (made : Entry) (number : ℕ) (seen entries : List Entered) (moment : ℕ) (own : List ℕ) (loans : List Lent) (old new : Shard D)
+  pub accepts : (start : Option (Shard D)) (faults client : ℕ) (made : Entry) (number : ℕ) (seen entries : List Entered) (moment : ℕ) (own : List ℕ) (loans : List Lent) (old new : Shard D)
       → StartsWith entries seen → ComesFrom g start faults entries old → MakesEntry made number old new
-      → Accepts made number (told_at client series start seen own loans)
-      (told_at client series start (entries ++ record { entry = made; moment = moment } ∷ []) ((number_at start + length entries + 1) ∷ own) loans)
-  accepts start faults client series made number seen entries moment own loans old new more was makes =
+      → Accepts made number (told_at client start seen own loans)
+      (told_at client start (entries ++ record { entry = made; moment = moment } ∷ []) ((number_at start + length entries + 1) ∷ own) loans)
+  accepts start faults client made number seen entries moment own loans old new more was makes =
       let last : Entered = record { entry = made; moment = moment } in
       let before = ap (λ (s : State). s.number) (reached start faults entries old was) in
       let step = ap (λ (s : State). s.number) makes.state in
@@ -99,10 +99,10 @@ module _ {D R W : Type 0} (g : Ghosts D R W) where
       }
 
   -- Views.
-  pub begins : (start : Option (Shard D)) (faults client series : ℕ) (need : Need) (shown : Shown) (seen entries : List Entered) (own : List ℕ) (loans : List Lent) (shard : Shard D)
+  pub begins : (start : Option (Shard D)) (faults client : ℕ) (need : Need) (shown : Shown) (seen entries : List Entered) (own : List ℕ) (loans : List Lent) (shard : Shard D)
       → ComesFrom g start faults entries shard → Lends need shown shard
-      → Begins need shown 0 false (told_at client series start seen own loans) (told_at client series start entries own (View ∷ loans))
-  begins start faults client series need shown seen entries own loans shard was lends = record {
+      → Begins need shown 0 false (told_at client start seen own loans) (told_at client start entries own (View ∷ loans))
+  begins start faults client need shown seen entries own loans shard was lends = record {
     number = lends.number ∙ ap (λ (s : State). s.number) (reached start faults entries shard was);
     gives = λ tells. subst (λ (s : State). Gives s.points need shown) (reached start faults entries shard was) lends.gives;
     sound = λ tells. subst (λ (s : State). IsSound s.points) (reached start faults entries shard was) lends.sound;
@@ -127,18 +127,18 @@ module _ {D R W : Type 0} (g : Ghosts D R W) where
   failed start faults told entered shard now was fails = record { rose = omega arith; unsteady = unsteady start faults entered shard was fails.unsteady }
 
   -- Why a batch was refused.
-  module _ (start : Shard D) (faults client series : ℕ) (points : List Point) (entered : List Entered) (own : List ℕ) (loans : List Lent) (shard : Shard D)
-      (was : ComesTo g start faults entered shard) (few : length shard.logs.series.keys ≤ series) where
+  module _ (start : Shard D) (faults client : ℕ) (points : List Point) (entered : List Entered) (own : List ℕ) (loans : List Lent) (shard : Shard D)
+      (was : ComesTo g start faults entered shard) (few : length shard.logs.series.keys ≤ most_found loans) where
     within : (text : List ℕ) → is_among (all_texts (limits_of (state_of start) start.logs.series.keys start) (entries_in entered)) text ≡ true → is_among shard.logs.series.keys text ≡ true
     within = within_held start.logs.series.keys shard.logs.series.keys (entries_in entered) was.series
 
-    is_open : steps.IsOpen points shard → IsOpen points (told_at client series (Some start) entered own loans)
+    is_open : steps.IsOpen points shard → IsOpen points (told_at client (Some start) entered own loans)
     is_open o = record {
       accepted = λ tells. subst (λ (s : State). IsAccepted s.points points) was.state o.accepted;
       number = subst (λ (s : State). s.number < last_number) was.state o.number;
     }
 
-    fits : steps.FitsSeries points shard → FitsSeries points (told_at client series (Some start) entered own loans) (limits_of (state_of start) start.logs.series.keys start)
+    fits : steps.FitsSeries points shard → FitsSeries points (told_at client (Some start) entered own loans) (limits_of (state_of start) start.logs.series.keys start)
     fits f = record {
       held = length (known_of (limits_of (state_of start) start.logs.series.keys start) (entries_in entered));
       known = known_of (limits_of (state_of start) start.logs.series.keys start) (entries_in entered);
@@ -157,7 +157,7 @@ module _ {D R W : Type 0} (g : Ghosts D R W) where
     }
 
     passes : (held : ℕ) → steps.PassesSeries points shard → held ≡ length shard.logs.series.keys
-        → PassesSeries points held series (entries_in entered) (limits_of (state_of start) start.logs.series.keys start)
+        → PassesSeries points held (most_found loans) (entries_in entered) (limits_of (state_of start) start.logs.series.keys start)
     passes held p is = record {
       new = new_of (limits_of (state_of start) start.logs.series.keys start) (entries_in entered) points;
       are_new = are_new (limits_of (state_of start) start.logs.series.keys start) (entries_in entered) points;
@@ -180,7 +180,7 @@ module _ {D R W : Type 0} (g : Ghosts D R W) where
     }
 
     cause_of : (before after old new : Health) (why : WriteFault) → (why ≡ fault.Fault → Failed before after → Failed old new) → steps.HasCause points shard before after why
-        → WriteHasCause points (told_at client series (Some start) entered own loans) old new why
+        → WriteHasCause points (told_at client (Some start) entered own loans) old new why
     cause_of before after old new (fault.TypeConflict field held number) fails is =
         (record { stored = shard.live.points; are_told = λ tells. ap (λ (s : State). s.points) was.state; in_conflict = is.0 }, is.1 ∙ ap (λ (s : State). s.number) was.state)
     cause_of before after old new fault.HistoryFull fails is =
@@ -191,20 +191,20 @@ module _ {D R W : Type 0} (g : Ghosts D R W) where
     cause_of before after old new fault.Fault fails is =
         (fails refl is.0, is_open is.1, fits is.2, (let same = ap (λ settings. settings.cache_points) was.settings in let room = is.3 in omega (arith, same, room)))
 
-  pub cause : (start : Option (Shard D)) (faults client series : ℕ) (points : List Point) (entered : List Entered) (own : List ℕ) (loans : List Lent) (shard : Shard D)
-      → ComesFrom g start faults entered shard → length shard.logs.series.keys ≤ series
+  pub cause : (start : Option (Shard D)) (faults client : ℕ) (points : List Point) (entered : List Entered) (own : List ℕ) (loans : List Lent) (shard : Shard D)
+      → ComesFrom g start faults entered shard → length shard.logs.series.keys ≤ most_found loans
       → (before after old new : Health) (why : WriteFault) → (why ≡ fault.Fault → Failed before after → Failed old new) → steps.HasCause points shard before after why
-      → WriteHasCause points (told_at client series start entered own loans) old new why
-  cause (Some s) faults client series points entered own loans shard was few before after old new why fails is =
-      cause_of s faults client series points entered own loans shard was few before after old new why fails is
-  cause None faults client series points entered own loans shard was few before after old new why fails is = absurd was
+      → WriteHasCause points (told_at client start entered own loans) old new why
+  cause (Some s) faults client points entered own loans shard was few before after old new why fails is =
+      cause_of s faults client points entered own loans shard was few before after old new why fails is
+  cause None faults client points entered own loans shard was few before after old new why fails is = absurd was
 
   -- Why a deletion was refused.
-  pub delete_cause : (start : Option (Shard D)) (faults client series : ℕ) (entered : List Entered) (own : List ℕ) (loans : List Lent) (shard : Shard D) → ComesFrom g start faults entered shard
+  pub delete_cause : (start : Option (Shard D)) (faults client : ℕ) (entered : List Entered) (own : List ℕ) (loans : List Lent) (shard : Shard D) → ComesFrom g start faults entered shard
       → (before after old new : Health) (why : DeleteFault) → (why ≡ delete_fault.Fault → Failed before after → Failed old new) → deleting.HasCause shard before after why
-      → DeleteHasCause (told_at client series start entered own loans) old new why
-  delete_cause start faults client series entered own loans shard was before after old new delete_fault.HistoryFull fails is =
+      → DeleteHasCause (told_at client start entered own loans) old new why
+  delete_cause start faults client entered own loans shard was before after old new delete_fault.HistoryFull fails is =
       sym (ap (λ (s : State). s.number) (reached start faults entered shard was)) ∙ is
-  delete_cause start faults client series entered own loans shard was before after old new delete_fault.Memory fails is = tt
-  delete_cause start faults client series entered own loans shard was before after old new delete_fault.Fault fails is =
+  delete_cause start faults client entered own loans shard was before after old new delete_fault.Memory fails is = tt
+  delete_cause start faults client entered own loans shard was before after old new delete_fault.Fault fails is =
       (fails refl is.0, subst (λ (s : State). s.number < last_number) (reached start faults entered shard was) is.1)

@@ -1,6 +1,7 @@
 -- What a pass knows once it has given the turn back.
-use Rattle.std.proofs.Common.{◌≡◌, ◌∙◌, ℕ, List, ◌++◌, ◌∷◌, [], append-nil, ap, subst, sym, arith, reverse, Option, Some, refl, Bool, true, false, Result, Ok, Err}
+use Rattle.std.proofs.Common.{◌≡◌, ◌∙◌, ℕ, List, ◌++◌, ◌∷◌, [], length, append-nil, ap, subst, sym, arith, reverse, Option, Some, refl, Bool, true, false, Result, Ok, Err}
 use Rattle.std.specs.Prelude.{IsErrOf}
+use Rattle.std.specs.declared.snapshot.Snapshot.{Snapshot}
 use Rattle.std.proofs.lemmas.Bool.{false≢true}
 use Rattle.shard_disk.specs.Health.{Health}
 use Rattle.shard_disk.specs.declared.disk.Disk.{Ghosts}
@@ -18,13 +19,13 @@ use Rattle.store_trait.specs.declared.fault.WriteFault.{WriteFault}
 use Rattle.store_trait.specs.declared.fault.WriteFault.TheVariants as fault
 use Rattle.shard_steps.specs.declared.facts.Facts.{Facts}
 use Rattle.shard_steps.specs.declared.shard.Shard.{Shard}
-use Rattle.shard_shared.specs.Reaching.{ComesFrom}
-use Rattle.shard_shared.specs.Entries.{entries_in, views_lent}
+use Rattle.shard_shared.specs.Reaching.{ComesFrom, Stands}
+use Rattle.shard_shared.specs.Entries.{AreFew, counts_in, entries_in, most_found, views_lent}
 use Rattle.shard_shared.specs.Told.{EngineView, is_fault, limits_at, number_at, state_at, told_over}
 use Rattle.shard_shared.specs.declared.engine.Engine.{Engine}
 use Rattle.shard_shared.specs.declared.engine.Entered.{Entered}
 use Rattle.shard_shared.specs.declared.engine.Lent.{Lent}
-use Rattle.shard_shared.proofs.EntriesLemmas.{entries_in-append}
+use Rattle.shard_shared.proofs.EntriesLemmas.{entries_in-append, few_grown, few_more, noted_counts}
 
 -- what clauses see of a pass
 abbrev pub Pass : Type 0 → Type 0
@@ -43,8 +44,31 @@ gave {D} old held new entries found loans_found facts more faults loans taken gi
 
 -- the value that is lent is the one that was taken
 pub lent_reaches : {D R W : Type 0} (g : Ghosts D R W) (start : Option (Shard D)) (entries : List Entered) (taken lent : Engine D) → lent ≡ taken
-    → ComesFrom g start taken.faults entries taken.shard → ComesFrom g start lent.faults entries lent.shard
-lent_reaches {D} g start entries taken lent is was = subst (λ (e : Engine D). ComesFrom g start e.faults entries e.shard) (sym is) was
+    → Stands g start entries taken → ComesFrom g start lent.faults entries lent.shard
+lent_reaches {D} g start entries taken lent is was = subst (λ (e : Engine D). ComesFrom g start e.faults entries e.shard) (sym is) was.0
+
+pub lent_few : {D R W : Type 0} (g : Ghosts D R W) (start : Option (Shard D)) (entries : List Entered) (taken lent : Engine D) → lent ≡ taken
+    → Stands g start entries taken → AreFew (counts_in lent.found.items) lent.shard.logs.series.keys
+lent_few {D} g start entries taken lent is was = subst (λ (e : Engine D). AreFew (counts_in e.found.items) e.shard.logs.series.keys) (sym is) was.1
+
+-- the same of one that has room for a refusal
+pub roomy_reaches : {D R W : Type 0} (g : Ghosts D R W) (start : Option (Shard D)) (entries : List Entered) (taken lent roomy : Engine D) → lent ≡ taken
+    → roomy.shard ≡ lent.shard → roomy.faults ≡ lent.faults → Stands g start entries taken → ComesFrom g start roomy.faults entries roomy.shard
+roomy_reaches {D} g start entries taken lent roomy is shard faults was =
+    subst (λ (s : Shard D). ComesFrom g start roomy.faults entries s) (sym shard)
+    (subst (λ (n : ℕ). ComesFrom g start n entries lent.shard) (sym faults) (lent_reaches g start entries taken lent is was))
+
+pub roomy_few : {D R W : Type 0} (g : Ghosts D R W) (start : Option (Shard D)) (entries : List Entered) (taken lent roomy : Engine D) → lent ≡ taken
+    → roomy.shard ≡ lent.shard → roomy.found.items ≡ lent.found.items → Stands g start entries taken → AreFew (counts_in roomy.found.items) roomy.shard.logs.series.keys
+roomy_few {D} g start entries taken lent roomy is shard found was =
+    subst (λ (s : Shard D). AreFew (counts_in roomy.found.items) s.logs.series.keys) (sym shard)
+    (subst (λ (l : List (Snapshot ℕ)). AreFew (counts_in l) lent.shard.logs.series.keys) (sym found) (lent_few g start entries taken lent is was))
+
+-- a refusal notes what it found
+pub noted_few : (old new : List (Snapshot ℕ)) (note : Snapshot ℕ) (count : ℕ) (keys more grown : List (List ℕ)) → new ≡ old ++ note ∷ [] → note.value ≡ count → grown ≡ keys ++ more
+    → count ≡ length grown → AreFew (counts_in old) keys → AreFew (counts_in new) grown
+noted_few old new note count keys more grown put value is counts few =
+    subst (λ (l : List ℕ). AreFew l grown) (sym (noted_counts old new note count put value)) (few_more (counts_in old) count grown (few_grown (counts_in old) keys more grown few is) (omega (arith, counts)))
 
 -- no entry more
 pub none_more : {D R W : Type 0} (g : Ghosts D R W) (start : Option (Shard D)) (faults : ℕ) (entries : List Entered) (shard : Shard D)
@@ -75,9 +99,9 @@ module _ {D : Type 0} (first was : EngineView D) (waits : Waits first was) where
   waits_more entries found loans_found faults more = record { start = waits.start; own = waits.own; loans = waits.loans; seen = seen_more entries more }
 
 -- what a store tells by the view of its pass
-pub told_keeps : {D : Type 0} (old new : EngineView D) (client next series count : ℕ) → next ≡ client → count ≡ series → new.start ≡ old.start → StartsWith new.seen old.seen
-    → Keeps (told_over client series old) (told_over next count new)
-told_keeps {D} old new client next series count same few start more = record {
+pub told_keeps : {D : Type 0} (old new : EngineView D) (client next : ℕ) → next ≡ client → most_found new.loans ≡ most_found old.loans → new.start ≡ old.start → StartsWith new.seen old.seen
+    → Keeps (told_over client old) (told_over next new)
+told_keeps {D} old new client next same few start more = record {
   client = same;
   start = ap (λ (s : Option (Shard D)). state_at s) start;
   tells = refl;
@@ -88,9 +112,9 @@ told_keeps {D} old new client next series count same few start more = record {
   series = omega (arith, few);
 }
 
-pub begins_waited : {D : Type 0} (first was now : EngineView D) (client next series count : ℕ) (need : Need) (shown : Shown) → Waits first was
-    → Begins need shown 0 false (told_over next count was) (told_over next count now) → Begins need shown 0 false (told_over client series first) (told_over next count now)
-begins_waited first was now client next series count need shown waits begins = record {
+pub begins_waited : {D : Type 0} (first was now : EngineView D) (client next : ℕ) (need : Need) (shown : Shown) → Waits first was
+    → Begins need shown 0 false (told_over next was) (told_over next now) → Begins need shown 0 false (told_over client first) (told_over next now)
+begins_waited first was now client next need shown waits begins = record {
   number = begins.number;
   gives = begins.gives;
   sound = begins.sound;

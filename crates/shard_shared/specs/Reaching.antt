@@ -8,7 +8,8 @@ use Rattle.shard_state.specs.History.{Made}
 use Rattle.shard_steps.specs.Shards.{IsReady, Runs, state_of}
 use Rattle.shard_steps.specs.declared.shard.Shard.{Shard}
 use Rattle.shard_calls.specs.Holds.{HasRun, HoldsSeries}
-use Rattle.shard_shared.specs.Entries.{entries_in, made_by}
+use Rattle.shard_shared.specs.Entries.{AreFew, counts_in, entries_in, made_by}
+use Rattle.shard_shared.specs.declared.engine.Engine.{Engine}
 use Rattle.shard_shared.specs.declared.engine.Entered.{Entered}
 
 -- The health of a disk that so many calls failed at since it was this: its count rose with each, up to its last value, and where
@@ -44,3 +45,7 @@ pub record ComesTo {D R W : Type 0} (g : Ghosts D R W) (start : Shard D) (faults
 abbrev pub ComesFrom : {D R W : Type 0} → Ghosts D R W → Option (Shard D) → ℕ → List Entered → Shard D → Type 0
 ComesFrom g (Some start) faults entered shard = ComesTo g start faults entered shard
 ComesFrom g None faults entered shard = ⊥
+
+-- An engine came from its start to these entries, and none of the counts of series that were noted is above what it holds.
+abbrev pub Stands : {D R W : Type 0} → Ghosts D R W → Option (Shard D) → List Entered → Engine D → Type 0
+Stands g start entered engine = ComesFrom g start engine.faults entered engine.shard × AreFew (counts_in engine.found.items) engine.shard.logs.series.keys

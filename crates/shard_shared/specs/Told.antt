@@ -10,7 +10,7 @@ use Rattle.store_trait.specs.declared.fault.WriteFault.TheVariants as fault
 use Rattle.shard_calls.specs.Told.{limits_of}
 use Rattle.shard_steps.specs.Shards.{state_of}
 use Rattle.shard_steps.specs.declared.shard.Shard.{Shard}
-use Rattle.shard_shared.specs.Entries.{entries_in, views_lent, faults_lent}
+use Rattle.shard_shared.specs.Entries.{entries_in, faults_lent, most_found, views_lent}
 use Rattle.shard_shared.specs.declared.engine.Entered.{Entered}
 use Rattle.shard_shared.specs.declared.engine.Lent.{Lent}
 
@@ -38,9 +38,9 @@ is_steady_at g (Some start) = (g.health start.logs.disk).is_steady
 is_steady_at g None = true
 
 -- It tells the history that its pass knows, the numbers that the pass owns, oldest first, and the views among the loans of the
--- pass. The series are the most that it found held.
-abbrev pub told_over : {D : Type 0} → ℕ → ℕ → EngineView D → Told
-told_over client series view = record {
+-- pass. The series are the most that one of its refused writes found held.
+abbrev pub told_over : {D : Type 0} → ℕ → EngineView D → Told
+told_over client view = record {
   client = client;
   start = state_at view.start;
   tells = true;
@@ -48,7 +48,7 @@ told_over client series view = record {
   limits = limits_at view.start;
   history = entries_in view.seen;
   own = reverse view.own;
-  series = series;
+  series = most_found view.loans;
   out = views_lent view.loans;
 }
 

@@ -1,10 +1,15 @@
 // An engine as a value that passes take turns with.
-ghost use Rattle.std.specs.Prelude.{◌≡◌, ◌<◌, ◌+◌, IfOk, IfErr, OnOk, OnErr};
+ghost use Rattle.std.specs.Prelude.{◌≡◌, ◌<◌, ◌+◌, ◌++◌, [], ◌∷◌, IfOk, IfErr, OnOk, OnErr, IsTrue, vec_len, vec_capacity};
 
 use history_turn::Counted;
 use point_model::Entry;
 use shard_calls::EngineDisk;
 use shard_steps::{Facts, Shard};
+use std::alloc::Global;
+use std::snapshot::Snapshot;
+
+/// The last count of faults.
+pub(crate) const LAST_FAULTS: u64 = 18446744073709551614;
 
 /// An accepted entry of an engine. No value of it is made.
 pub struct Entered {
@@ -20,37 +25,76 @@ pub enum Lent {
     /// An answer that told a fault. It stays with the client, so that all clients together have told exactly the faults that the
     /// engine counts.
     Fault,
+    /// A refused write that found so many series held. It stays with the client, so that no client is told of more series than the
+    /// engine comes to hold.
+    Found(u64),
 }
 
-/// An engine, and how many of its answers told a fault: at most 18446744073709551614.
+/// An engine, how many of its answers told a fault, at most 18446744073709551614, and the counts of series that its refused writes
+/// found. These are noted for the proofs alone and take no bytes.
 pub struct Engine<D> {
     pub(crate) shard: Shard<D>,
     pub(crate) faults: u64,
+    pub(crate) found: Vec<Snapshot<u64>>,
     ghost room: { faults < 18446744073709551615 },
 }
 
 impl<D> Engine<D> {
-    /// An engine that has told no fault.
-    pub fn new(shard: Shard<D>) -> Engine<D>
+    /// An engine that has refused nothing.
+    pub fn new(alloc: Global, shard: Shard<D>) -> Engine<D>
         ensures shard { result.shard ≡ shard }
         ensures faults { result.faults ≡ 0 }
+        ensures found { result.found.items ≡ [] }
     {
-        Engine { shard, faults: 0 }
+        Engine {
+            shard,
+            faults: 0,
+            found: Vec::new(alloc),
+        }
     }
 
     pub fn into_shard(self) -> Shard<D>
         ensures { result ≡ self.shard }
     {
-        let Engine { shard, faults: _ } = self;
+        let Engine {
+            shard,
+            faults: _,
+            found: _found,
+        } = self;
         shard
     }
+
+    /// Whether one refusal more can be counted and noted.
+    pub(crate) fn has_room(&mut self) -> bool
+        ensures shard { self.new.shard ≡ self.old.shard }
+        ensures faults { self.new.faults ≡ self.old.faults }
+        ensures found { self.new.found.items ≡ self.old.found.items }
+        ensures room { IsTrue result → self.new.faults < 18446744073709551614 }
+        ensures noted { IsTrue result → vec_len self.new.found < vec_capacity self.new.found }
+    {
+        if self.faults >= LAST_FAULTS {
+            return false;
+        }
+        match self.found.reserve(1) {
+            Ok(()) => true,
+            Err(_) => false,
+        }
+    }
+}
+
+/// Notes a count of series where the room for it is there.
+pub(crate) fn note(found: &mut Vec<Snapshot<u64>>, series: Snapshot<u64>)
+    requires { vec_len found.old < vec_capacity found.old }
+    ensures { found.new.items ≡ found.old.items ++ series ∷ [] }
+{
+    let _ = found.push(series);
 }
 
 /// The start of a history is the engine as it was then.
 impl<D: EngineDisk> Counted for Engine<D> {
     ghost use Rattle.std.specs.Prelude.{length, Some, None};
-    ghost use Rattle.shard_shared.specs.Entries.{lent_by};
-    ghost use Rattle.shard_shared.specs.Reaching.{ComesFrom};
+    ghost use Rattle.shard_shared.specs.Entries.{counts_in, lent_by};
+    ghost use Rattle.shard_shared.specs.Reaching.{Stands};
     ghost use Rattle.shard_shared.specs.Told.{number_at};
 
     type Facts = Facts;
@@ -69,11 +113,11 @@ impl<D: EngineDisk> Counted for Engine<D> {
 
     ghost first_faults = { λ _. 0 };
 
-    ghost stands = { λ x s es. ComesFrom D.Disk s x.faults es x.shard };
+    ghost stands = { λ x s es. Stands D.Disk s es x };
 
     ghost faults_of = { λ x. x.faults };
 
-    ghost loans_of = { λ x. lent_by x.shard.views x.faults };
+    ghost loans_of = { λ x. lent_by x.shard.views x.faults (counts_in x.found.items) };
 
     ghost facts_of = { λ x. record { cached = length x.shard.live.points; series = length x.shard.logs.series.keys } };
 

@@ -1,7 +1,7 @@
 // What a client did while it had the turn, for the proof alone.
 ghost use Rattle.std.specs.Prelude.{◌∷◌, Some, None};
 ghost use Rattle.point_model.specs.declared.entry.Entry.TheVariants.{Write, Delete};
-ghost use Rattle.shard_shared.specs.declared.engine.Lent.TheVariants.{View, Fault};
+ghost use Rattle.shard_shared.specs.declared.engine.Lent.TheVariants.{View, Fault, Found};
 ghost use Rattle.shard_shared.specs.Entries.{without_view};
 
 use crate::Engine;
@@ -36,7 +36,31 @@ impl<'a, D: EngineDisk> News<Engine<D>> for Deleted<'a> {
     ghost loans = { λ _ _ loans. loans };
 }
 
-/// A fault was told.
+/// A batch was refused, by no fault, where so many series were held.
+#[derive(Drop)]
+pub(crate) struct Refused {
+    pub(crate) series: u64,
+}
+
+impl<D: EngineDisk> News<Engine<D>> for Refused {
+    ghost entry = { λ _ _. None };
+
+    ghost loans = { λ news _ loans. Found news.series ∷ loans };
+}
+
+/// A batch was refused by a fault, where so many series were held.
+#[derive(Drop)]
+pub(crate) struct FailedWrite {
+    pub(crate) series: u64,
+}
+
+impl<D: EngineDisk> News<Engine<D>> for FailedWrite {
+    ghost entry = { λ _ _. None };
+
+    ghost loans = { λ news _ loans. Fault ∷ Found news.series ∷ loans };
+}
+
+/// A deletion was refused by a fault.
 #[derive(Drop)]
 pub(crate) struct Failed;
 

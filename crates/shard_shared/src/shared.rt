@@ -1,8 +1,9 @@
 // One client's store of an engine that others share.
-ghost use Rattle.std.specs.Prelude.{◌≡◌, ◌≤◌, false};
+ghost use Rattle.std.specs.Prelude.{◌≡◌, false};
 ghost use Rattle.shard_shared.specs.Told.{is_fault};
 
-use crate::news::{Began, Deleted, Ended, Failed, Wrote};
+use crate::engine::{LAST_FAULTS, note};
+use crate::news::{Began, Deleted, Ended, Failed, FailedWrite, Refused, Wrote};
 use crate::{Engine, Place};
 use crossbeam_utils::Backoff;
 use history_turn::{Nothing, Pass, Turn};
@@ -10,12 +11,10 @@ use point_model::{Deletion, Need};
 use shard_calls::EngineDisk;
 use shard_steps::{begin_view, end_view};
 use std::marker::PhantomData;
+use std::snapshot::Snapshot;
 use std::sync::Wait;
 use store_trait::{DeleteFault, ListView, Store, ViewFault, WriteFault};
 use tsdb_types::Batch;
-
-/// The last count of faults.
-const LAST_FAULTS: u64 = 18446744073709551614;
 
 /// What one client has of an engine behind a turn. The pass hasn't the turn between calls, and keeps its parts.
 pub struct Shared<'t, D: EngineDisk, R: Wait, P: Place> {
@@ -23,17 +22,15 @@ pub struct Shared<'t, D: EngineDisk, R: Wait, P: Place> {
     pub(crate) turn: &'t Turn<Engine<D>>,
     pub(crate) pass: Pass<Engine<D>>,
     pub(crate) client: u32,
-    pub(crate) series: u64,
     pub(crate) place: PhantomData<P>,
     ghost at_turn: { turn.now ≡ P.turn },
     ghost of_turn: { pass.turn ≡ P.turn },
     ghost without_turn: { pass.view.has_turn ≡ false },
     ghost of_parts: { pass.view.parts ≡ P.parts },
-    ghost few_series: { series ≤ 10000000 },
 }
 
 impl<'t, D: EngineDisk, R: Wait, P: Place> Shared<'t, D, R, P> {
-    /// The store of a client over its pass. It has found no series yet.
+    /// The store of a client over its pass.
     pub fn new(
         rt: &'t R,
         turn: &'t Turn<Engine<D>>,
@@ -46,14 +43,12 @@ impl<'t, D: EngineDisk, R: Wait, P: Place> Shared<'t, D, R, P> {
         requires parts { pass.view.parts ≡ P.parts }
         ensures pass { result.pass ≡ pass }
         ensures client { result.client ≡ client }
-        ensures series { result.series ≡ 0 }
     {
         Shared {
             rt,
             turn,
             pass,
             client,
-            series: 0,
             place: PhantomData,
         }
     }
@@ -70,7 +65,6 @@ impl<'t, D: EngineDisk, R: Wait, P: Place> Shared<'t, D, R, P> {
             turn: _,
             pass,
             client: _,
-            series: _,
             place: _,
         } = self;
         pass
@@ -82,16 +76,15 @@ impl<'t, D: EngineDisk, R: Wait, P: Place> Store for Shared<'t, D, R, P> {
 
     type View = ListView;
 
-    ghost told = { λ s. told_over s.client s.series s.pass.view };
+    ghost told = { λ s. told_over s.client s.pass.view };
 
     ghost health = { λ s. health_by D.Disk s.pass.view };
 
-    /// Where no further fault could be counted, the batch is refused for want of memory before anything is done.
+    /// Where no further refusal could be counted and noted, the batch is refused for want of memory before anything is done.
     fn write(&mut self, batch: &Batch) -> Result<u64, WriteFault> {
         let mut held = self.turn.take(self.rt, &mut self.pass);
         let engine = held.value();
-        self.series = self.series.max(engine.shard.facts().series);
-        if engine.faults >= LAST_FAULTS {
+        if !engine.has_room() {
             self.turn.give(&mut self.pass, held, &Nothing);
             return Err(WriteFault::Memory);
         }
@@ -105,12 +98,15 @@ impl<'t, D: EngineDisk, R: Wait, P: Place> Store for Shared<'t, D, R, P> {
                 Ok(number)
             }
             Err(fault) => {
+                let series = engine.shard.facts().series;
+                note(&mut engine.found, Snapshot::of(&series));
                 if tells_fault(&fault) {
                     engine.faults += 1;
-                    self.turn.give(&mut self.pass, held, &Failed);
+                    self.turn
+                        .give(&mut self.pass, held, &FailedWrite { series });
                     return Err(fault);
                 }
-                self.turn.give(&mut self.pass, held, &Nothing);
+                self.turn.give(&mut self.pass, held, &Refused { series });
                 Err(fault)
             }
         }

@@ -4,4 +4,4 @@ use Rattle.shard_shared.proofs.TurnLemmas.{Waits}
 use Rattle.shard_shared.proofs.shared.SharedStore.begin_view.Given as goal
 
 abbrev pub invariant-loop : goal.invariant-loop
-invariant-loop g l = (l.self.client ≡ l.initial.self.client) × (l.self.series ≡ l.initial.self.series) × Waits l.initial.self.pass.view l.self.pass.view
+invariant-loop g l = (l.self.client ≡ l.initial.self.client) × Waits l.initial.self.pass.view l.self.pass.view
