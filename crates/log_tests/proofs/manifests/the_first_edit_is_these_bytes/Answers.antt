@@ -3,8 +3,8 @@ use Rattle.log_tests.proofs.FirstLemmas.{no_files, first_may, first_writable}
 use Rattle.manifest_log.proofs.BeginLemmas.{begun_stands}
 use Rattle.log_tests.proofs.manifests.the_first_edit_is_these_bytes.Goals as goal
 
-pub begin-requires : goal.begin-requires
-begin-requires g c = λ tells. inl (no_files _ c.new-disk.ensures.empty)
+pub begin-requires-after_bounds : goal.begin-requires-after_bounds
+begin-requires-after_bounds g c κs within = inl (no_files _ c.new-disk.ensures.empty)
 
 pub edit-requires-clause-may : goal.edit-requires-clause-may
 edit-requires-clause-may g c κs =
