@@ -88,6 +88,7 @@ accepts_more client number views notes more note made told was counted value is 
           ap (λ (es : List Entry). numbers_from 1 es) history ∙ numbers-last 1 (entries_of client notes) made
           ∙ ap (λ (n : ℕ). numbers_from 1 (entries_of client notes) ++ n ∷ []) (omega (arith, old, counted));
       out = refl;
+      tried = refl;
     }
 
 -- a store that tells one entry more keeps the rest

@@ -1,7 +1,7 @@
 -- A store that is alone changes by its own calls.
 use Rattle.std.proofs.Common.{◌≡◌, ◌∙◌, ap, sym, refl, ℕ, ◌+◌, List, [], ◌∷◌, ◌++◌, length, IsTrue, arith, append-nil, length-append}
 use Rattle.point_model.specs.declared.entry.Entry.{Entry}
-use Rattle.store_trait.specs.Told.{Told, Keeps, IsAlike, OwnsAll, numbers_from}
+use Rattle.store_trait.specs.Told.{Told, Keeps, OwnsAll, numbers_from}
 use Rattle.store_trait.specs.Calls.Entry.{Accepts}
 
 count_numbers : (number : ℕ) (entries : List Entry) → length (numbers_from number entries) ≡ length entries
@@ -21,10 +21,10 @@ pub no_longer : (old since new : List Entry) → new ≡ old ++ since → length
 no_longer old since new begins same =
     begins ∙ ap (λ (l : List Entry). old ++ l) (none_since old since (sym (ap length begins) ∙ same)) ∙ append-nil old
 
-pub refused_makes_none : (old new : Told) → Keeps old new → IsAlike old new → IsTrue new.is_alone → OwnsAll old → new.history ≡ old.history
-refused_makes_none old new kept alike alone owns =
+pub refused_makes_none : (old new : Told) → Keeps old new → new.own ≡ old.own → IsTrue new.is_alone → OwnsAll old → new.history ≡ old.history
+refused_makes_none old new kept same alone owns =
     no_longer old.history kept.history.since new.history kept.history.begins
-    (as_many new (kept.alone alone owns) ∙ ap length alike.own ∙ sym (as_many old owns))
+    (as_many new (kept.alone alone owns) ∙ ap length same ∙ sym (as_many old owns))
 
 pub accepted_makes_one : (made : Entry) (number : ℕ) (old new : Told) → Keeps old new → Accepts made number old new → IsTrue new.is_alone → OwnsAll old
     → new.history ≡ old.history ++ made ∷ []

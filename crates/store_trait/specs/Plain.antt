@@ -16,7 +16,7 @@ use Rattle.store_trait.specs.Notes.{entries_of}
 use Rattle.store_trait.specs.Slots.{Slots, Samples, slot_at, sample_of, held}
 use Rattle.store_trait.specs.Told.{Told, last_number, numbers_from}
 
--- It began with nothing, is alone, has no limits, and all its entries are its own.
+-- It began with nothing, is alone, has no limits, and all its entries are its own. A crash leaves nothing of it, so no entry is told as tried.
 abbrev pub told_of : ℕ → List EntryNote → ℕ → Told
 told_of client notes views = record {
   client = client;
@@ -28,6 +28,7 @@ told_of client notes views = record {
   own = numbers_from 1 (entries_of client notes);
   series = 0;
   out = replicate views 0;
+  tried = [];
 }
 
 -- the value of the sample of a field

@@ -1,5 +1,5 @@
 -- What does a store tell of itself, and what may a call change of it?
-use Rattle.std.specs.Prelude.{◌≡◌, ℕ, ◌+◌, ◌≤◌, Bool, IsTrue, List, [], ◌∷◌, ◌++◌, length, sum_by, Option}
+use Rattle.std.specs.Prelude.{◌≡◌, ◌⊎◌, ℕ, ◌+◌, ◌≤◌, Bool, IsTrue, List, [], ◌∷◌, ◌++◌, length, sum_by, Contains, Option}
 use Rattle.point_model.specs.declared.entry.Entry.{Entry}
 use Rattle.point_model.specs.Histories.{State, state_after}
 use Rattle.point_model.specs.declared.entry.Entry.TheVariants.{Write, Delete}
@@ -32,6 +32,8 @@ pub record Told : Type 0 where
   pub series : ℕ
   -- the loans that are out: one for each view that was begun and not ended
   pub out : List ℕ
+  -- the entries that it was asked for and refused by a fault or for want of memory: a crash may leave one of them
+  pub tried : List Entry
 
 -- the points and the number behind all entries that it knows
 abbrev pub state_now : Told → State
@@ -66,10 +68,21 @@ pub record Keeps (old new : Told) : Type 0 where
   pub history : IsLater old.history new.history
   pub series : old.series ≤ new.series
 
--- No entry was made and no view begun or ended.
+-- No entry was made or tried, and no view begun or ended.
 pub record IsAlike (old new : Told) : Type 0 where
   pub own : new.own ≡ old.own
   pub out : new.out ≡ old.out
+  pub tried : new.tried ≡ old.tried
+
+-- Of the entries that are told as tried each was told so before, or it is the one asked for, which may have been tried.
+abbrev pub TriesAtMost : Entry → Type 0 → List Entry → List Entry → Type 0
+TriesAtMost asked may old new = (entry : Entry) → Contains new entry → Contains old entry ⊎ (may × (asked ≡ entry))
+
+-- An entry was refused: none was made, and no view begun or ended.
+pub record Refuses (asked : Entry) (may_be_tried : Type 0) (old new : Told) : Type 0 where
+  pub own : new.own ≡ old.own
+  pub out : new.out ≡ old.out
+  pub tried : TriesAtMost asked may_be_tried old.tried new.tried
 
 -- how many points the entries wrote
 abbrev pub points_in : Entry → ℕ

@@ -3,10 +3,10 @@ ghost use Rattle.shard_disk.specs.Health.{Health, Ages, IsFresh};
 ghost use Rattle.point_model.specs.Acceptance.{IsWritable};
 ghost use Rattle.point_model.specs.Deletions.{IsLoggable};
 ghost use Rattle.point_model.specs.declared.entry.Entry.TheVariants.{Write, Delete};
-ghost use Rattle.store_trait.specs.Told.{Told, Keeps, IsAlike, state_now};
-ghost use Rattle.store_trait.specs.Calls.Delete.{DeleteHasCause, IsQuiet as IsQuietDelete};
+ghost use Rattle.store_trait.specs.Told.{Told, Keeps, IsAlike, Refuses, state_now};
+ghost use Rattle.store_trait.specs.Calls.Delete.{DeleteHasCause, IsQuiet as IsQuietDelete, MayBeTried as MayBeTriedDelete};
 ghost use Rattle.store_trait.specs.Calls.Entry.{Accepts};
-ghost use Rattle.store_trait.specs.Calls.Write.{WriteHasCause, IsQuiet as IsQuietWrite};
+ghost use Rattle.store_trait.specs.Calls.Write.{WriteHasCause, IsQuiet as IsQuietWrite, MayBeTried as MayBeTriedWrite};
 ghost use Rattle.store_trait.specs.Laws.{AloneChangesItself};
 ghost use Rattle.store_trait.specs.Calls.View.{Begins, Ends, TakesBack, ViewHasCause, IsQuiet as IsQuietView};
 
@@ -16,7 +16,7 @@ use tsdb_types::Batch;
 
 /// Points that a client writes to, deletes from and reads. Its points are those of its start behind the entries of its history,
 /// which other clients may add to between its calls, but where the store is alone. A refused call leaves the points and the
-/// numbers, but for entries of others. The count of faults rises by an answer that tells one, and by the end of a view that met one.
+/// numbers, but for entries of others; what a fault or want of memory refused is told as tried, since a crash may leave it. The count of faults rises by an answer that tells one, and by the end of a view that met one.
 pub trait Store {
     type View: PointCursor;
 
@@ -29,7 +29,7 @@ pub trait Store {
     fn write(&mut self, batch: &Batch) -> Result<u64, WriteFault>
         requires { IsWritable batch.now }
         ensures ok { IfOk result (λ number. Accepts (Write (told self.old).client batch.now) number (told self.old) (told self.new)) }
-        ensures err { OnErr result (IsAlike (told self.old) (told self.new)) }
+        ensures err { IfErr result (λ why. Refuses (Write (told self.old).client batch.now) (MayBeTriedWrite why) (told self.old) (told self.new)) }
         ensures refused { IfErr result (WriteHasCause batch.now (told self.new) (health self.old) (health self.new)) }
         ensures kept { Keeps (told self.old) (told self.new) }
         ensures ages { Ages (health self.old) (health self.new) }
@@ -40,7 +40,7 @@ pub trait Store {
     fn delete(&mut self, deletion: &Deletion) -> Result<u64, DeleteFault>
         requires { IsLoggable deletion.now }
         ensures ok { IfOk result (λ number. Accepts (Delete (told self.old).client deletion.now) number (told self.old) (told self.new)) }
-        ensures err { OnErr result (IsAlike (told self.old) (told self.new)) }
+        ensures err { IfErr result (λ why. Refuses (Delete (told self.old).client deletion.now) (MayBeTriedDelete why) (told self.old) (told self.new)) }
         ensures refused { IfErr result (DeleteHasCause (told self.new) (health self.old) (health self.new)) }
         ensures kept { Keeps (told self.old) (told self.new) }
         ensures ages { Ages (health self.old) (health self.new) }

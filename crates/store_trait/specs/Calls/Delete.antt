@@ -12,6 +12,12 @@ DeleteHasCause told old new fault.HistoryFull = (state_now told).number ≡ last
 DeleteHasCause told old new fault.Memory = ⊤
 DeleteHasCause told old new fault.Fault = Failed old new × ((state_now told).number < last_number)
 
+-- the entry may have been tried: a fault or want of memory refused it
+abbrev pub MayBeTried : DeleteFault → Type 0
+MayBeTried fault.HistoryFull = ⊥
+MayBeTried fault.Memory = ⊤
+MayBeTried fault.Fault = ⊤
+
 -- no answer but a fault changes the health
 abbrev pub IsQuiet : {T : Type 0} → Result T DeleteFault → Health → Health → Type 0
 IsQuiet result old new = ¬ (IsErrOf result fault.Fault) → new ≡ old

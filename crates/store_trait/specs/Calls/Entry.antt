@@ -22,3 +22,4 @@ pub record Accepts (made : Entry) (number : ℕ) (old new : Told) : Type 0 where
   pub limit : number ≤ last_number
   pub own : new.own ≡ old.own ++ number ∷ []
   pub out : new.out ≡ old.out
+  pub tried : new.tried ≡ old.tried

@@ -16,6 +16,7 @@ pub record Begins (need : Need) (shown : Shown) (loan : ℕ) (can_be_damaged : B
   pub sound : IsTrue new.tells → IsSound (state_now new).points
   pub timed : IsTrue new.tells → All (λ point. IsMoment point.0.time) (state_now new).points
   pub own : new.own ≡ old.own
+  pub tried : new.tried ≡ old.tried
   pub out : new.out ≡ loan ∷ old.out
   -- it can be damaged only where the store doesn't tell its points, and never where that has no limits
   pub told_is_whole : IsTrue new.tells → can_be_damaged ≡ false
@@ -40,6 +41,7 @@ without loan (other ∷ others) = if loan == other then others else other ∷ wi
 -- This view is no longer out.
 pub record Ends (loan : ℕ) (old new : Told) : Type 0 where
   pub own : new.own ≡ old.own
+  pub tried : new.tried ≡ old.tried
   pub out : new.out ≡ without loan old.out
 
 -- The store takes over that a view met faults. Where it met none, the store stays as it is.

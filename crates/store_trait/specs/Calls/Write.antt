@@ -84,6 +84,15 @@ WriteHasCause points told old new fault.Memory = ⊤
 WriteHasCause points told old new fault.Fault =
     Failed old new × IsOpen points told × IfSome told.limits (FitsSeries points told) × IfSome told.limits (FitsCache points)
 
+-- the entry may have been tried: a fault or want of memory refused it
+abbrev pub MayBeTried : WriteFault → Type 0
+MayBeTried (fault.TypeConflict field held number) = ⊥
+MayBeTried fault.HistoryFull = ⊥
+MayBeTried (fault.SeriesFull held) = ⊥
+MayBeTried (fault.CacheFull held) = ⊥
+MayBeTried fault.Memory = ⊤
+MayBeTried fault.Fault = ⊤
+
 -- no answer but a fault changes the health
 abbrev pub IsQuiet : {T : Type 0} → Result T WriteFault → Health → Health → Type 0
 IsQuiet result old new = ¬ (IsErrOf result fault.Fault) → new ≡ old
