@@ -1,5 +1,6 @@
 -- What holds of a store and its engine?
 use Rattle.std.specs.Prelude.{◌≡◌, ℕ, List, ◌++◌, Any, Contains, Option, IsTrue}
+use Rattle.std.specs.List.{AllByRecursion}
 use Rattle.shard_disk.specs.declared.disk.Disk.{Ghosts}
 use Rattle.point_model.specs.Histories.{State, state_after}
 use Rattle.point_model.specs.declared.entry.Entry.{Entry}
@@ -8,12 +9,13 @@ use Rattle.shard_state.specs.History.{Made, entries_of}
 use Rattle.shard_steps.specs.Shards.{IsReady, Runs, state_of}
 use Rattle.shard_steps.specs.declared.shard.Shard.{Shard}
 
--- The engine ran from the start to these entries: every crash since leaves a prefix of them, with at most one entry more, which was
--- refused. The last that was refused may be in doubt.
-pub record HasRun {D R W : Type 0} (g : Ghosts D R W) (start : State) (since : ℕ) (history : List Entry) (shard : Shard D) : Type 0 where
+-- The engine ran from the start to these entries: every crash since leaves a prefix of them, with at most one entry more, which is one
+-- of those that were tried. The last that was refused may be in doubt.
+pub record HasRun {D R W : Type 0} (g : Ghosts D R W) (start : State) (since : ℕ) (history tried : List Entry) (shard : Shard D) : Type 0 where
   pub made : List Made
   pub are : entries_of made ≡ history
   pub refused : List Entry
+  pub were_tried : AllByRecursion (Contains tried) refused
   pub doubt : Option Entry
   pub runs : Runs g shard start since made refused doubt
 
@@ -26,8 +28,8 @@ pub record HoldsSeries (first : List (List ℕ)) (entries : List Entry) (keys : 
 -- The engine is ready, and its points and number are those behind the entries. It holds the series of the start and of each entry. Where
 -- the disk was sound since a moment, the engine ran since then.
 pub record Holds {D R W : Type 0} (g : Ghosts D R W) (IsSound : ℕ → Type 0) (start : State) (first : List (List ℕ))
-    (entries : List Entry) (shard : Shard D) : Type 0 where
+    (entries tried : List Entry) (shard : Shard D) : Type 0 where
   pub ready : IsReady g shard
   pub state : state_of shard ≡ state_after start entries
   pub series : HoldsSeries first entries shard.logs.series.keys
-  pub ran : IsTrue g.tells → (since : ℕ) → IsSound since → HasRun g start since entries shard
+  pub ran : IsTrue g.tells → (since : ℕ) → IsSound since → HasRun g start since entries tried shard

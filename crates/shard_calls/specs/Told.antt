@@ -16,8 +16,8 @@ abbrev pub limits_of : {D : Type 0} → State → List (List ℕ) → Shard D �
 limits_of start first shard = record { cached = length start.points; most_cached = shard.settings.cache_points; series = first; most_series = shard.settings.series }
 
 -- Its entries are those that it made, each its own and counted from the start. It has its points in memory, so it tells them.
-abbrev pub told_of : {D : Type 0} → ℕ → State → List (List ℕ) → List Entry → Shard D → Told
-told_of client start first entries shard = record {
+abbrev pub told_of : {D : Type 0} → ℕ → State → List (List ℕ) → List Entry → List Entry → Shard D → Told
+told_of client start first entries tried shard = record {
   client = client;
   start = start;
   tells = true;
@@ -27,4 +27,5 @@ told_of client start first entries shard = record {
   own = numbers_from (start.number + 1) entries;
   series = length shard.logs.series.keys;
   out = replicate shard.views 0;
+  tried = tried;
 }

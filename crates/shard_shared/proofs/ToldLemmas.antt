@@ -15,7 +15,7 @@ use Rattle.point_model.specs.declared.entry.Entry.{Entry}
 use Rattle.store_trait.specs.Calls.Entry.{Accepts, TakesEntry}
 use Rattle.store_trait.specs.Calls.View.{Begins}
 use Rattle.store_trait.specs.Calls.Write.{IsOpen, FitsSeries, PassesSeries, PassesCache, WriteHasCause}
-use Rattle.store_trait.specs.Told.{Keeps, Told, last_number}
+use Rattle.store_trait.specs.Told.{Keeps, Refuses, Told, TriesAtMost, last_number}
 use Rattle.store_trait.specs.Calls.Delete.{DeleteHasCause}
 use Rattle.store_trait.specs.declared.fault.DeleteFault.{DeleteFault}
 use Rattle.store_trait.specs.declared.fault.DeleteFault.TheVariants as delete_fault
@@ -31,7 +31,7 @@ use Rattle.shard_calls.specs.Told.{limits_of}
 use Rattle.shard_calls.proofs.CountLemmas.{all_few, all_texts, are_known, are_new, few_left, known_few, known_of, new_of, unheld_few}
 use Rattle.shard_calls.proofs.SeriesLemmas.{by_case}
 use Rattle.shard_calls.proofs.StoreLemmas.{MakesEntry, within_held}
-use Rattle.shard_shared.specs.Entries.{entries_in, most_found, views_lent}
+use Rattle.shard_shared.specs.Entries.{entries_in, most_found, tried_lent, views_lent}
 use Rattle.shard_shared.specs.Reaching.{ComesTo, ComesFrom}
 use Rattle.shard_shared.specs.Told.{is_steady_at, limits_at, number_at, state_at}
 use Rattle.shard_shared.specs.declared.engine.Entered.{Entered}
@@ -51,6 +51,7 @@ told_at client start seen own loans = record {
   own = reverse own;
   series = most_found loans;
   out = views_lent loans;
+  tried = tried_lent loans;
 }
 
 module _ {D : Type 0} (client : ℕ) (start : Option (Shard D)) where
@@ -67,6 +68,11 @@ module _ {D : Type 0} (client : ℕ) (start : Option (Shard D)) where
     history = record { since = entries_in more.0; begins = ap (λ (es : List Entered). entries_in es) more.1 ∙ entries_in-append seen more.0 };
     series = few;
   }
+
+  -- What a refusal leaves.
+  pub refuses : (asked : Entry) (may : Type 0) (seen entries : List Entered) (own : List ℕ) (loans left : List Lent) → views_lent left ≡ views_lent loans → TriesAtMost asked may (tried_lent loans) (tried_lent left)
+      → Refuses asked may (told_at client start seen own loans) (told_at client start entries own left)
+  refuses asked may seen entries own loans left same tries = record { own = refl; out = same; tried = tries }
 
 module _ {D R W : Type 0} (g : Ghosts D R W) where
   reached : (start : Option (Shard D)) (faults : ℕ) (entered : List Entered) (shard : Shard D) → ComesFrom g start faults entered shard
@@ -96,6 +102,7 @@ module _ {D R W : Type 0} (g : Ghosts D R W) where
         limit = makes.limit;
         own = reverse-append ((number_at start + length entries + 1) ∷ []) own ∙ ap (λ (n : ℕ). reverse own ++ n ∷ []) (let own_is : number_at start + length entries + 1 ≡ number = omega (arith, before, step, given, many) in own_is);
         out = refl;
+        tried = refl;
       }
 
   -- Views.
@@ -108,6 +115,7 @@ module _ {D R W : Type 0} (g : Ghosts D R W) where
     sound = λ tells. subst (λ (s : State). IsSound s.points) (reached start faults entries shard was) lends.sound;
     timed = λ tells. subst (λ (s : State). All (λ point. IsMoment point.0.time) s.points) (reached start faults entries shard was) lends.timed;
     own = refl;
+    tried = refl;
     out = refl;
     told_is_whole = λ tells. refl;
     unlimited_is_whole = λ none. refl;

@@ -19,13 +19,14 @@ use Rattle.store_trait.specs.declared.fault.WriteFault.{WriteFault}
 use Rattle.store_trait.specs.declared.fault.WriteFault.TheVariants as fault
 use Rattle.shard_steps.specs.declared.facts.Facts.{Facts}
 use Rattle.shard_steps.specs.declared.shard.Shard.{Shard}
-use Rattle.shard_shared.specs.Reaching.{ComesFrom, Stands}
-use Rattle.shard_shared.specs.Entries.{AreFew, counts_in, entries_in, most_found, views_lent}
-use Rattle.shard_shared.specs.Told.{EngineView, is_fault, limits_at, number_at, state_at, told_over}
+use Rattle.shard_shared.specs.Reaching.{ComesFrom, RanFrom, Stands}
+use Rattle.shard_shared.specs.Entries.{AreFew, entries_in, most_found, refusals_in, tried_in, tried_lent, views_lent}
+use Rattle.shard_shared.specs.Told.{EngineView, is_deletion_fault, is_fault, limits_at, number_at, state_at, told_over}
 use Rattle.shard_shared.specs.declared.engine.Engine.{Engine}
 use Rattle.shard_shared.specs.declared.engine.Entered.{Entered}
 use Rattle.shard_shared.specs.declared.engine.Lent.{Lent}
-use Rattle.shard_shared.proofs.EntriesLemmas.{entries_in-append, few_grown, few_more, noted_counts}
+use Rattle.shard_shared.specs.declared.engine.Refusal.{Refusal}
+use Rattle.shard_shared.proofs.EntriesLemmas.{entries_in-append, few_grown, few_more, noted_refusals}
 
 -- what clauses see of a pass
 abbrev pub Pass : Type 0 → Type 0
@@ -48,8 +49,8 @@ pub lent_reaches : {D R W : Type 0} (g : Ghosts D R W) (start : Option (Shard D)
 lent_reaches {D} g start entries taken lent is was = subst (λ (e : Engine D). ComesFrom g start e.faults entries e.shard) (sym is) was.0
 
 pub lent_few : {D R W : Type 0} (g : Ghosts D R W) (start : Option (Shard D)) (entries : List Entered) (taken lent : Engine D) → lent ≡ taken
-    → Stands g start entries taken → AreFew (counts_in lent.found.items) lent.shard.logs.series.keys
-lent_few {D} g start entries taken lent is was = subst (λ (e : Engine D). AreFew (counts_in e.found.items) e.shard.logs.series.keys) (sym is) was.1
+    → Stands g start entries taken → AreFew (refusals_in lent.found.items) lent.shard.logs.series.keys
+lent_few {D} g start entries taken lent is was = subst (λ (e : Engine D). AreFew (refusals_in e.found.items) e.shard.logs.series.keys) (sym is) was.1
 
 -- the same of one that has room for a refusal
 pub roomy_reaches : {D R W : Type 0} (g : Ghosts D R W) (start : Option (Shard D)) (entries : List Entered) (taken lent roomy : Engine D) → lent ≡ taken
@@ -59,16 +60,27 @@ roomy_reaches {D} g start entries taken lent roomy is shard faults was =
     (subst (λ (n : ℕ). ComesFrom g start n entries lent.shard) (sym faults) (lent_reaches g start entries taken lent is was))
 
 pub roomy_few : {D R W : Type 0} (g : Ghosts D R W) (start : Option (Shard D)) (entries : List Entered) (taken lent roomy : Engine D) → lent ≡ taken
-    → roomy.shard ≡ lent.shard → roomy.found.items ≡ lent.found.items → Stands g start entries taken → AreFew (counts_in roomy.found.items) roomy.shard.logs.series.keys
+    → roomy.shard ≡ lent.shard → roomy.found.items ≡ lent.found.items → Stands g start entries taken → AreFew (refusals_in roomy.found.items) roomy.shard.logs.series.keys
 roomy_few {D} g start entries taken lent roomy is shard found was =
-    subst (λ (s : Shard D). AreFew (counts_in roomy.found.items) s.logs.series.keys) (sym shard)
-    (subst (λ (l : List (Snapshot ℕ)). AreFew (counts_in l) lent.shard.logs.series.keys) (sym found) (lent_few g start entries taken lent is was))
+    subst (λ (s : Shard D). AreFew (refusals_in roomy.found.items) s.logs.series.keys) (sym shard)
+    (subst (λ (l : List (Snapshot Refusal)). AreFew (refusals_in l) lent.shard.logs.series.keys) (sym found) (lent_few g start entries taken lent is was))
+
+-- what a crash may leave of the one that is lent, and of one that has room for a refusal
+pub lent_ran : {D R W : Type 0} (g : Ghosts D R W) (start : Option (Shard D)) (entries : List Entered) (taken lent : Engine D) → lent ≡ taken
+    → Stands g start entries taken → RanFrom g start (tried_in (refusals_in lent.found.items)) entries lent.shard
+lent_ran {D} g start entries taken lent is was = subst (λ (e : Engine D). RanFrom g start (tried_in (refusals_in e.found.items)) entries e.shard) (sym is) was.2
+
+pub roomy_ran : {D R W : Type 0} (g : Ghosts D R W) (start : Option (Shard D)) (entries : List Entered) (taken lent roomy : Engine D) → lent ≡ taken
+    → roomy.shard ≡ lent.shard → roomy.found.items ≡ lent.found.items → Stands g start entries taken → RanFrom g start (tried_in (refusals_in roomy.found.items)) entries roomy.shard
+roomy_ran {D} g start entries taken lent roomy is shard found was =
+    subst (λ (s : Shard D). RanFrom g start (tried_in (refusals_in roomy.found.items)) entries s) (sym shard)
+    (subst (λ (l : List (Snapshot Refusal)). RanFrom g start (tried_in (refusals_in l)) entries lent.shard) (sym found) (lent_ran g start entries taken lent is was))
 
 -- a refusal notes what it found
-pub noted_few : (old new : List (Snapshot ℕ)) (note : Snapshot ℕ) (count : ℕ) (keys more grown : List (List ℕ)) → new ≡ old ++ note ∷ [] → note.value ≡ count → grown ≡ keys ++ more
-    → count ≡ length grown → AreFew (counts_in old) keys → AreFew (counts_in new) grown
-noted_few old new note count keys more grown put value is counts few =
-    subst (λ (l : List ℕ). AreFew l grown) (sym (noted_counts old new note count put value)) (few_more (counts_in old) count grown (few_grown (counts_in old) keys more grown few is) (omega (arith, counts)))
+pub noted_few : (old new : List (Snapshot Refusal)) (note : Snapshot Refusal) (refusal : Refusal) (keys more grown : List (List ℕ)) → new ≡ old ++ note ∷ [] → note.value ≡ refusal → grown ≡ keys ++ more
+    → refusal.series ≡ length grown → AreFew (refusals_in old) keys → AreFew (refusals_in new) grown
+noted_few old new note refusal keys more grown put value is counts few =
+    subst (λ (l : List Refusal). AreFew l grown) (sym (noted_refusals old new note refusal put value)) (few_more (refusals_in old) refusal grown (few_grown (refusals_in old) keys more grown few is) (omega (arith, counts)))
 
 -- no entry more
 pub none_more : {D R W : Type 0} (g : Ghosts D R W) (start : Option (Shard D)) (faults : ℕ) (entries : List Entered) (shard : Shard D)
@@ -120,6 +132,7 @@ begins_waited first was now client next need shown waits begins = record {
   sound = begins.sound;
   timed = begins.timed;
   own = begins.own ∙ ap (λ (ns : List ℕ). reverse ns) waits.own;
+  tried = begins.tried ∙ ap (λ (l : List Lent). tried_lent l) waits.loans;
   out = begins.out ∙ ap (λ (l : List Lent). 0 ∷ views_lent l) waits.loans;
   told_is_whole = begins.told_is_whole;
   unlimited_is_whole = begins.unlimited_is_whole;
@@ -149,15 +162,22 @@ quiet_refusal why other is = fault_isnt why other (ap (λ (r : Result ℕ WriteF
 pub quiet_answer : (number : ℕ) → IsErrOf {T = ℕ} (Ok number) fault.Fault → ⊥
 quiet_answer number is = false≢true (ap (λ (r : Result ℕ WriteFault). is_fault (refusal r fault.Memory)) is)
 
--- whether a refused deletion tells a fault
-abbrev pub tells_failure : Result ℕ DeleteFault → Bool
-tells_failure (Ok number) = false
-tells_failure (Err delete_fault.HistoryFull) = false
-tells_failure (Err delete_fault.Memory) = false
-tells_failure (Err delete_fault.Fault) = true
+-- The same of a deletion.
 
-pub quiet_deletion : (result : Result ℕ DeleteFault) → tells_failure result ≡ false → IsErrOf result delete_fault.Fault → ⊥
-quiet_deletion result other is = false≢true (sym other ∙ ap (λ (r : Result ℕ DeleteFault). tells_failure r) is)
+pub deletion_fault_is : (why : DeleteFault) → is_deletion_fault why ≡ true → why ≡ delete_fault.Fault
+deletion_fault_is delete_fault.HistoryFull is = absurd (false≢true is)
+deletion_fault_is delete_fault.Memory is = absurd (false≢true is)
+deletion_fault_is delete_fault.Fault is = refl
 
-pub other_than_fault : (why : DeleteFault) → tells_failure (Err why) ≡ false → why ≡ delete_fault.Fault → ⊥
-other_than_fault why other is = false≢true (sym other ∙ ap (λ (w : DeleteFault). tells_failure (Err w)) is)
+pub deletion_fault_isnt : (why : DeleteFault) → is_deletion_fault why ≡ false → why ≡ delete_fault.Fault → ⊥
+deletion_fault_isnt why other is = false≢true (sym other ∙ ap (λ (w : DeleteFault). is_deletion_fault w) is)
+
+abbrev deletion_refusal : Result ℕ DeleteFault → DeleteFault → DeleteFault
+deletion_refusal (Ok number) other = other
+deletion_refusal (Err why) other = why
+
+pub quiet_deletion_refusal : (why : DeleteFault) → is_deletion_fault why ≡ false → IsErrOf {T = ℕ} (Err why) delete_fault.Fault → ⊥
+quiet_deletion_refusal why other is = deletion_fault_isnt why other (ap (λ (r : Result ℕ DeleteFault). deletion_refusal r why) is)
+
+pub quiet_deletion_answer : (number : ℕ) → IsErrOf {T = ℕ} (Ok number) delete_fault.Fault → ⊥
+quiet_deletion_answer number is = false≢true (ap (λ (r : Result ℕ DeleteFault). is_deletion_fault (deletion_refusal r delete_fault.Memory)) is)

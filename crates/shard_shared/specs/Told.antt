@@ -5,12 +5,14 @@ use Rattle.shard_disk.specs.declared.disk.Disk.{Ghosts}
 use Rattle.history_turn.specs.declared.view.PassView.{PassView}
 use Rattle.point_model.specs.Histories.{State, nothing}
 use Rattle.store_trait.specs.Told.{Limits, Told}
+use Rattle.store_trait.specs.declared.fault.DeleteFault.{DeleteFault}
+use Rattle.store_trait.specs.declared.fault.DeleteFault.TheVariants as delete_fault
 use Rattle.store_trait.specs.declared.fault.WriteFault.{WriteFault}
 use Rattle.store_trait.specs.declared.fault.WriteFault.TheVariants as fault
 use Rattle.shard_calls.specs.Told.{limits_of}
 use Rattle.shard_steps.specs.Shards.{state_of}
 use Rattle.shard_steps.specs.declared.shard.Shard.{Shard}
-use Rattle.shard_shared.specs.Entries.{entries_in, faults_lent, most_found, views_lent}
+use Rattle.shard_shared.specs.Entries.{entries_in, faults_lent, most_found, tried_lent, views_lent}
 use Rattle.shard_shared.specs.declared.engine.Entered.{Entered}
 use Rattle.shard_shared.specs.declared.engine.Lent.{Lent}
 
@@ -38,7 +40,7 @@ is_steady_at g (Some start) = (g.health start.logs.disk).is_steady
 is_steady_at g None = true
 
 -- It tells the history that its pass knows, the numbers that the pass owns, oldest first, and the views among the loans of the
--- pass. The series are the most that one of its refused writes found held.
+-- pass. The series are the most that one of its refused calls found held, and what these tried is noted among the loans too.
 abbrev pub told_over : {D : Type 0} → ℕ → EngineView D → Told
 told_over client view = record {
   client = client;
@@ -50,6 +52,7 @@ told_over client view = record {
   own = reverse view.own;
   series = most_found view.loans;
   out = views_lent view.loans;
+  tried = tried_lent view.loans;
 }
 
 -- Its count is of the faults that it answered. It is steady where the disk was at the start.
@@ -64,3 +67,9 @@ is_fault (fault.SeriesFull held) = false
 is_fault (fault.CacheFull held) = false
 is_fault fault.Memory = false
 is_fault fault.Fault = true
+
+-- the same of a deletion
+abbrev pub is_deletion_fault : DeleteFault → Bool
+is_deletion_fault delete_fault.HistoryFull = false
+is_deletion_fault delete_fault.Memory = false
+is_deletion_fault delete_fault.Fault = true

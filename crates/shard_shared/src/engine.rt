@@ -7,6 +7,7 @@ use shard_calls::EngineDisk;
 use shard_steps::{Facts, Shard};
 use std::alloc::Global;
 use std::snapshot::Snapshot;
+use store_trait::EntryNote;
 
 /// The last count of faults.
 pub(crate) const LAST_FAULTS: u64 = 18446744073709551614;
@@ -25,17 +26,27 @@ pub enum Lent {
     /// An answer that told a fault. It stays with the client, so that all clients together have told exactly the faults that the
     /// engine counts.
     Fault,
-    /// A refused write that found so many series held. It stays with the client, so that no client is told of more series than the
-    /// engine comes to hold.
-    Found(u64),
+    /// A refused write or deletion, with what it found and tried. It stays with the client, so that no client is told of more series
+    /// than the engine comes to hold, and each entry that a crash may leave is one that a client was refused.
+    Found(Refusal),
 }
 
-/// An engine, how many of its answers told a fault, at most 18446744073709551614, and the counts of series that its refused writes
-/// found. These are noted for the proofs alone and take no bytes.
+/// A refused write or deletion.
+#[derive(Drop)]
+pub struct Refusal {
+    pub client: u32,
+    /// How many series were held.
+    pub series: u64,
+    /// What was asked for, where a fault or want of memory refused it: a crash may leave it.
+    pub tried: Option<EntryNote>,
+}
+
+/// An engine, how many of its answers told a fault, at most 18446744073709551614, and its refused writes and deletions. These are
+/// noted for the proofs alone and take no bytes.
 pub struct Engine<D> {
     pub(crate) shard: Shard<D>,
     pub(crate) faults: u64,
-    pub(crate) found: Vec<Snapshot<u64>>,
+    pub(crate) found: Vec<Snapshot<Refusal>>,
     ghost room: { faults < 18446744073709551615 },
 }
 
@@ -82,18 +93,18 @@ impl<D> Engine<D> {
     }
 }
 
-/// Notes a count of series where the room for it is there.
-pub(crate) fn note(found: &mut Vec<Snapshot<u64>>, series: Snapshot<u64>)
+/// Notes a refusal where the room for it is there.
+pub(crate) fn note(found: &mut Vec<Snapshot<Refusal>>, refusal: Snapshot<Refusal>)
     requires { vec_len found.old < vec_capacity found.old }
-    ensures { found.new.items ≡ found.old.items ++ series ∷ [] }
+    ensures { found.new.items ≡ found.old.items ++ refusal ∷ [] }
 {
-    let _ = found.push(series);
+    let _ = found.push(refusal);
 }
 
 /// The start of a history is the engine as it was then.
 impl<D: EngineDisk> Counted for Engine<D> {
     ghost use Rattle.std.specs.Prelude.{length, Some, None};
-    ghost use Rattle.shard_shared.specs.Entries.{counts_in, lent_by};
+    ghost use Rattle.shard_shared.specs.Entries.{lent_by, refusals_in};
     ghost use Rattle.shard_shared.specs.Reaching.{Stands};
     ghost use Rattle.shard_shared.specs.Told.{number_at};
 
@@ -117,7 +128,7 @@ impl<D: EngineDisk> Counted for Engine<D> {
 
     ghost faults_of = { λ x. x.faults };
 
-    ghost loans_of = { λ x. lent_by x.shard.views x.faults (counts_in x.found.items) };
+    ghost loans_of = { λ x. lent_by x.shard.views x.faults (refusals_in x.found.items) };
 
     ghost facts_of = { λ x. record { cached = length x.shard.live.points; series = length x.shard.logs.series.keys } };
 

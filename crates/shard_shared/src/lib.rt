@@ -6,6 +6,6 @@ mod news;
 mod place;
 mod shared;
 
-pub use engine::{Engine, Entered, Lent};
+pub use engine::{Engine, Entered, Lent, Refusal};
 pub use place::Place;
 pub use shared::Shared;

@@ -4,7 +4,7 @@ ghost use Rattle.point_model.specs.declared.entry.Entry.TheVariants.{Write, Dele
 ghost use Rattle.shard_shared.specs.declared.engine.Lent.TheVariants.{View, Fault, Found};
 ghost use Rattle.shard_shared.specs.Entries.{without_view};
 
-use crate::Engine;
+use crate::{Engine, Refusal};
 use history_turn::News;
 use point_model::Deletion;
 use shard_calls::EngineDisk;
@@ -36,38 +36,28 @@ impl<'a, D: EngineDisk> News<Engine<D>> for Deleted<'a> {
     ghost loans = { λ _ _ loans. loans };
 }
 
-/// A batch was refused, by no fault, where so many series were held.
+/// A batch or a deletion was refused, by no fault.
 #[derive(Drop)]
-pub(crate) struct Refused {
-    pub(crate) series: u64,
+pub(crate) struct Refused<'a> {
+    pub(crate) refusal: &'a Refusal,
 }
 
-impl<D: EngineDisk> News<Engine<D>> for Refused {
+impl<'a, D: EngineDisk> News<Engine<D>> for Refused<'a> {
     ghost entry = { λ _ _. None };
 
-    ghost loans = { λ news _ loans. Found news.series ∷ loans };
+    ghost loans = { λ news _ loans. Found news.refusal.now ∷ loans };
 }
 
-/// A batch was refused by a fault, where so many series were held.
+/// A batch or a deletion was refused by a fault.
 #[derive(Drop)]
-pub(crate) struct FailedWrite {
-    pub(crate) series: u64,
+pub(crate) struct Failed<'a> {
+    pub(crate) refusal: &'a Refusal,
 }
 
-impl<D: EngineDisk> News<Engine<D>> for FailedWrite {
+impl<'a, D: EngineDisk> News<Engine<D>> for Failed<'a> {
     ghost entry = { λ _ _. None };
 
-    ghost loans = { λ news _ loans. Fault ∷ Found news.series ∷ loans };
-}
-
-/// A deletion was refused by a fault.
-#[derive(Drop)]
-pub(crate) struct Failed;
-
-impl<D: EngineDisk> News<Engine<D>> for Failed {
-    ghost entry = { λ _ _. None };
-
-    ghost loans = { λ _ _ loans. Fault ∷ loans };
+    ghost loans = { λ news _ loans. Fault ∷ Found news.refusal.now ∷ loans };
 }
 
 /// A view was lent.

@@ -1,19 +1,19 @@
 // One client's store of an engine that others share.
 ghost use Rattle.std.specs.Prelude.{◌≡◌, false};
-ghost use Rattle.shard_shared.specs.Told.{is_fault};
+ghost use Rattle.shard_shared.specs.Told.{is_deletion_fault, is_fault};
 
-use crate::engine::{LAST_FAULTS, note};
-use crate::news::{Began, Deleted, Ended, Failed, FailedWrite, Refused, Wrote};
-use crate::{Engine, Place};
+use crate::engine::note;
+use crate::news::{Began, Deleted, Ended, Failed, Refused, Wrote};
+use crate::{Engine, Place, Refusal};
 use crossbeam_utils::Backoff;
 use history_turn::{Nothing, Pass, Turn};
 use point_model::{Deletion, Need};
-use shard_calls::EngineDisk;
+use shard_calls::{EngineDisk, attempt, deletion_attempt};
 use shard_steps::{begin_view, end_view};
 use std::marker::PhantomData;
 use std::snapshot::Snapshot;
 use std::sync::Wait;
-use store_trait::{DeleteFault, ListView, Store, ViewFault, WriteFault};
+use store_trait::{DeleteFault, EntryNote, ListView, Store, ViewFault, WriteFault};
 use tsdb_types::Batch;
 
 /// What one client has of an engine behind a turn. The pass hasn't the turn between calls, and keeps its parts.
@@ -98,49 +98,58 @@ impl<'t, D: EngineDisk, R: Wait, P: Place> Store for Shared<'t, D, R, P> {
                 Ok(number)
             }
             Err(fault) => {
-                let series = engine.shard.facts().series;
-                note(&mut engine.found, Snapshot::of(&series));
+                let refusal = Refusal {
+                    client: self.client,
+                    series: engine.shard.facts().series,
+                    tried: attempt(&fault, EntryNote::Written(Snapshot::of(batch))),
+                };
+                note(&mut engine.found, Snapshot::of(&refusal));
                 if tells_fault(&fault) {
                     engine.faults += 1;
                     self.turn
-                        .give(&mut self.pass, held, &FailedWrite { series });
+                        .give(&mut self.pass, held, &Failed { refusal: &refusal });
                     return Err(fault);
                 }
-                self.turn.give(&mut self.pass, held, &Refused { series });
+                self.turn
+                    .give(&mut self.pass, held, &Refused { refusal: &refusal });
                 Err(fault)
             }
         }
     }
 
-    /// Where no further fault could be counted, the deletion is refused for want of memory before anything is done.
+    /// Where no further refusal could be counted and noted, the deletion is refused for want of memory before anything is done.
     fn delete(&mut self, deletion: &Deletion) -> Result<u64, DeleteFault> {
         let mut held = self.turn.take(self.rt, &mut self.pass);
         let engine = held.value();
-        if engine.faults >= LAST_FAULTS {
+        if !engine.has_room() {
             self.turn.give(&mut self.pass, held, &Nothing);
             return Err(DeleteFault::Memory);
         }
         match D::delete(&mut engine.shard, self.client, deletion) {
             Ok(number) => {
-                let deleted = Deleted {
+                let news = Deleted {
                     client: self.client,
                     deletion,
                 };
-                self.turn.give(&mut self.pass, held, &deleted);
+                self.turn.give(&mut self.pass, held, &news);
                 Ok(number)
             }
-            Err(DeleteFault::Fault) => {
-                engine.faults += 1;
-                self.turn.give(&mut self.pass, held, &Failed);
-                Err(DeleteFault::Fault)
-            }
-            Err(DeleteFault::HistoryFull) => {
-                self.turn.give(&mut self.pass, held, &Nothing);
-                Err(DeleteFault::HistoryFull)
-            }
-            Err(DeleteFault::Memory) => {
-                self.turn.give(&mut self.pass, held, &Nothing);
-                Err(DeleteFault::Memory)
+            Err(fault) => {
+                let refusal = Refusal {
+                    client: self.client,
+                    series: engine.shard.facts().series,
+                    tried: deletion_attempt(&fault, EntryNote::Deleted(Snapshot::of(deletion))),
+                };
+                note(&mut engine.found, Snapshot::of(&refusal));
+                if tells_deletion_fault(&fault) {
+                    engine.faults += 1;
+                    self.turn
+                        .give(&mut self.pass, held, &Failed { refusal: &refusal });
+                    return Err(fault);
+                }
+                self.turn
+                    .give(&mut self.pass, held, &Refused { refusal: &refusal });
+                Err(fault)
             }
         }
     }
@@ -198,5 +207,15 @@ fn tells_fault(fault: &WriteFault) -> bool
         WriteFault::CacheFull { held: _ } => false,
         WriteFault::Memory => false,
         WriteFault::Fault => true,
+    }
+}
+
+fn tells_deletion_fault(fault: &DeleteFault) -> bool
+    ensures { result ≡ is_deletion_fault fault.now }
+{
+    match fault {
+        DeleteFault::HistoryFull => false,
+        DeleteFault::Memory => false,
+        DeleteFault::Fault => true,
     }
 }

@@ -1,159 +1,227 @@
--- The engine comes to a deletion more, or stays at the same.
-use Rattle.std.proofs.Common.{◌∙◌, ◌+◌, ◌++◌, ◌∷◌, [], List, Ok, Err, ap, sym, subst, refl, append-nil, arith}
+-- The engine comes to one entry more, or stays at the same and notes what was refused.
+use Rattle.std.proofs.Common.{◌∙◌, ℕ, ◌+◌, ◌≤◌, ◌++◌, ◌∷◌, [], List, length, length-append, append-nil, ap, sym, subst, refl, arith, Option}
+use Rattle.std.specs.declared.snapshot.Snapshot.{Snapshot}
+use Rattle.shard_steps.specs.declared.shard.Shard.{Shard}
+use Rattle.point_model.specs.declared.deletion.Deletion.{Deletion}
 use Rattle.point_model.specs.declared.entry.Entry.TheVariants.{Delete}
 use Rattle.history_turn.proofs.HistoriesLemmas.{starts_longer}
-use Rattle.store_trait.specs.Calls.Delete.{DeleteHasCause}
-use Rattle.store_trait.specs.Calls.Entry.{Accepts}
-use Rattle.store_trait.specs.Told.{Keeps}
+use Rattle.store_trait.specs.Calls.Delete.{DeleteHasCause, MayBeTried}
+use Rattle.store_trait.specs.Told.{Keeps, Refuses, TriesAtMost}
+use Rattle.store_trait.specs.declared.note.EntryNote.{EntryNote}
+use Rattle.store_trait.specs.declared.note.EntryNote.TheVariants.{Deleted}
 use Rattle.store_trait.specs.declared.fault.DeleteFault.{DeleteFault}
-use Rattle.store_trait.specs.declared.fault.DeleteFault.TheVariants as delete_fault
 use Rattle.shard_steps.specs.Calls.Delete.{HasCause}
-use Rattle.shard_calls.proofs.StoreLemmas.{delete_makes, delete_makes_none}
-use Rattle.shard_shared.specs.Entries.{counts_in, faults_lent}
+use Rattle.shard_steps.specs.declared.facts.Facts.{Facts}
+use Rattle.shard_calls.specs.Attempts.{deletion_attempt_of, entry_tried}
+use Rattle.shard_calls.proofs.StoreLemmas.{delete_makes, delete_makes_none, delete_stayed, delete_tries_before}
+use Rattle.shard_shared.specs.Entries.{faults_lent, most_found, refusals_in, tried_in, tried_lent}
 use Rattle.shard_shared.specs.Reaching.{entered_by}
-use Rattle.shard_shared.specs.Told.{EngineView, health_by, is_steady_at, told_over}
+use Rattle.shard_shared.specs.Told.{EngineView, health_by, is_steady_at, number_at, told_over}
 use Rattle.shard_shared.specs.declared.engine.Lent.{Lent}
-use Rattle.shard_shared.specs.declared.engine.Lent.TheVariants.{Fault}
-use Rattle.shard_shared.proofs.EntriesLemmas.{change_fault, few_grown}
-use Rattle.shard_shared.proofs.ReachingLemmas.{failed_more, failed_same, from_any, reaches_more, reaches_same}
-use Rattle.shard_shared.proofs.ToldLemmas.{accepts, delete_cause, failed, keeps}
-use Rattle.shard_shared.proofs.TurnLemmas.{Pass, gave, lent_few, lent_reaches, none_more, other_than_fault, quiet_deletion, tells_failure}
+use Rattle.shard_shared.specs.declared.engine.Lent.TheVariants.{Fault, Found}
+use Rattle.shard_shared.specs.declared.engine.Refusal.{Refusal}
+use Rattle.shard_shared.proofs.EntriesLemmas.{change_failed, change_found, change_same, few_grown, noted_refusals, tried_more}
+use Rattle.shard_shared.proofs.ReachingLemmas.{failed_more, failed_same, from_any, ran_more, ran_same, ran_still, reaches_more, reaches_same}
+use Rattle.shard_shared.proofs.ToldLemmas.{delete_cause, failed, keeps, refuses}
+use Rattle.shard_shared.proofs.TurnLemmas.{Pass, deletion_fault_is, deletion_fault_isnt, gave, none_more, noted_few, quiet_deletion_answer, quiet_deletion_refusal, roomy_few, roomy_ran, roomy_reaches}
 use Rattle.shard_shared.proofs.shared.SharedStore.delete.Goals as goal
+
+pub give-requires-clause-stands : goal.give-requires-clause-stands
+give-requires-clause-stands g c =
+    let taken = c.take-held.ensures in
+    let old = c.has_room.new.self in
+    let start = c.args.self.now.pass.view.start in
+    rw (ap (λ (p : Pass g.row.D.Denot). p.view.start) taken.now, ap (λ (p : Pass g.row.D.Denot). p.view.seen) taken.now)
+    (none_more g.D.Disk start old.faults taken.entries old.shard (roomy_reaches g.D.Disk start taken.entries c.take-held.result c.value-engine.result.now old c.value-engine.ensures.value c.has_room.ensures.shard c.has_room.ensures.faults taken.stands_for), roomy_few g.D.Disk start taken.entries c.take-held.result c.value-engine.result.now old c.value-engine.ensures.value c.has_room.ensures.shard c.has_room.ensures.found taken.stands_for,
+      ran_still g.D.Disk start (tried_in (refusals_in old.found.items)) taken.entries old.shard (roomy_ran g.D.Disk start taken.entries c.take-held.result c.value-engine.result.now old c.value-engine.ensures.value c.has_room.ensures.shard c.has_room.ensures.found taken.stands_for))
+
+pub give-requires-clause-loans : goal.give-requires-clause-loans
+give-requires-clause-loans g c =
+    let taken = c.take-held.ensures in
+    let was = c.value-engine.result.now in
+    rw (ap (λ (p : Pass g.row.D.Denot). p.view.loans_found) taken.now, ap (λ (p : Pass g.row.D.Denot). p.view.loans) taken.now, sym c.value-engine.ensures.value)
+    (change_same was.shard.views was.faults (refusals_in was.found.items) c.has_room.new.self.shard.views c.has_room.new.self.faults (refusals_in c.has_room.new.self.found.items)
+    c.args.self.now.pass.view.loans (ap (λ (s : Shard g.row.D.Denot). s.views) c.has_room.ensures.shard) c.has_room.ensures.faults
+    (ap (λ (l : List (Snapshot Refusal)). refusals_in l) c.has_room.ensures.found))
+
+pub give-requires-in-Ok-clause-loans : goal.give-requires-in-Ok-clause-loans
+give-requires-in-Ok-clause-loans g c =
+    let taken = c.take-held.ensures in
+    let was = c.value-engine.result.now in
+    rw (ap (λ (p : Pass g.row.D.Denot). p.view.loans_found) taken.now, ap (λ (p : Pass g.row.D.Denot). p.view.loans) taken.now, sym c.value-engine.ensures.value)
+    (change_same was.shard.views was.faults (refusals_in was.found.items) c.delete.new.shard.views c.has_room.new.self.faults (refusals_in c.has_room.new.self.found.items)
+    c.args.self.now.pass.view.loans (c.delete.ensures.kept.views ∙ ap (λ (s : Shard g.row.D.Denot). s.views) c.has_room.ensures.shard) c.has_room.ensures.faults
+    (ap (λ (l : List (Snapshot Refusal)). refusals_in l) c.has_room.ensures.found))
 
 pub give-requires-in-Ok-clause-stands : goal.give-requires-in-Ok-clause-stands
 give-requires-in-Ok-clause-stands g c =
     let taken = c.take-held.ensures in
-    let old = c.value-engine.result.now in
+    let old = c.has_room.new.self in
     let start = c.args.self.now.pass.view.start in
     rw (ap (λ (p : Pass g.row.D.Denot). p.view.start) taken.now, ap (λ (p : Pass g.row.D.Denot). p.view.seen) taken.now) (
       from_any g.D.Disk start old.faults old.faults taken.entries (taken.entries ++ entered_by g.D.Disk (Delete c.args.self.now.client c.args.deletion.now) c.delete.new.shard ∷ []) old.shard c.delete.new.shard
           (λ s was. reaches_more g.D.Disk s (Delete c.args.self.now.client c.args.deletion.now) c.in-Ok.number old.faults taken.entries old.shard c.delete.new.shard
           (delete_makes g.D.Disk c.args.self.now.client c.in-Ok.number c.args.deletion.now old.shard c.delete.new.shard c.in-Ok.ensures.ok c.delete.ensures.kept) c.delete.ensures.ready
-          c.delete.ensures.kept.handed_out (c.in-Ok.ensures.quiet (quiet_deletion (Ok c.in-Ok.number) refl)) c.in-Ok.ensures.goes_on.ok was)
-          (lent_reaches g.D.Disk start taken.entries c.take-held.result old c.value-engine.ensures.value taken.stands_for),
-      few_grown (counts_in old.found.items) old.shard.logs.series.keys [] c.delete.new.shard.logs.series.keys (lent_few g.D.Disk start taken.entries c.take-held.result old c.value-engine.ensures.value taken.stands_for) (c.delete.ensures.kept.series ∙ sym (append-nil old.shard.logs.series.keys)),
+          c.delete.ensures.kept.handed_out (c.in-Ok.ensures.quiet (quiet_deletion_answer c.in-Ok.number)) was)
+          (roomy_reaches g.D.Disk start taken.entries c.take-held.result c.value-engine.result.now old c.value-engine.ensures.value c.has_room.ensures.shard c.has_room.ensures.faults taken.stands_for),
+      few_grown (refusals_in old.found.items) old.shard.logs.series.keys [] c.delete.new.shard.logs.series.keys (roomy_few g.D.Disk start taken.entries c.take-held.result c.value-engine.result.now old c.value-engine.ensures.value c.has_room.ensures.shard c.has_room.ensures.found taken.stands_for) (c.delete.ensures.kept.series ∙ sym (append-nil old.shard.logs.series.keys)),
+      ran_more g.D.Disk start (Delete c.args.self.now.client c.args.deletion.now) (tried_in (refusals_in old.found.items)) taken.entries old.shard c.delete.new.shard c.in-Ok.ensures.goes_on.ok
+          (roomy_ran g.D.Disk start taken.entries c.take-held.result c.value-engine.result.now old c.value-engine.ensures.value c.has_room.ensures.shard c.has_room.ensures.found taken.stands_for),
     )
 
-pub give-requires-in-Err-Fault-clause-stands : goal.give-requires-in-Err-Fault-clause-stands
-give-requires-in-Err-Fault-clause-stands g c =
+pub give-requires-then-tells_deletion_fault-clause-stands : goal.give-requires-then-tells_deletion_fault-clause-stands
+give-requires-then-tells_deletion_fault-clause-stands g c =
     let taken = c.take-held.ensures in
-    let old = c.value-engine.result.now in
+    let old = c.has_room.new.self in
     let start = c.args.self.now.pass.view.start in
     rw (ap (λ (p : Pass g.row.D.Denot). p.view.start) taken.now, ap (λ (p : Pass g.row.D.Denot). p.view.seen) taken.now) (
       none_more g.D.Disk start (old.faults + 1) taken.entries c.delete.new.shard
           (from_any g.D.Disk start old.faults (old.faults + 1) taken.entries taken.entries old.shard c.delete.new.shard
-          (λ s was. reaches_same g.D.Disk s (Delete c.args.self.now.client c.args.deletion.now) (old.faults + 1) old.faults _ taken.entries old.shard c.delete.new.shard
-          (delete_makes_none g.D.Disk old.shard c.delete.new.shard c.in-Err-Fault.ensures.err c.delete.ensures.kept) c.delete.ensures.ready c.delete.ensures.kept.handed_out
-          (failed_more (g.D.Disk.health s.logs.disk) (g.D.Disk.health old.shard.logs.disk) (g.D.Disk.health c.delete.new.shard.logs.disk) old.faults was.health c.delete.ensures.ages (subst (λ (why : DeleteFault). HasCause old.shard (g.D.Disk.health old.shard.logs.disk) (g.D.Disk.health c.delete.new.shard.logs.disk) why) c.in-Err-Fault.field-0-is c.in-Err-Fault.ensures.refused).0)
-          c.in-Err-Fault.ensures.goes_on.stays was)
-          (lent_reaches g.D.Disk start taken.entries c.take-held.result old c.value-engine.ensures.value taken.stands_for)),
-      few_grown (counts_in old.found.items) old.shard.logs.series.keys [] c.delete.new.shard.logs.series.keys (lent_few g.D.Disk start taken.entries c.take-held.result old c.value-engine.ensures.value taken.stands_for) (c.delete.ensures.kept.series ∙ sym (append-nil old.shard.logs.series.keys)),
+          (λ s was. reaches_same g.D.Disk s (old.faults + 1) old.faults taken.entries old.shard c.delete.new.shard
+          (delete_makes_none g.D.Disk old.shard c.delete.new.shard c.in-Err.ensures.err c.delete.ensures.kept) c.delete.ensures.ready c.delete.ensures.kept.handed_out
+          (failed_more (g.D.Disk.health s.logs.disk) (g.D.Disk.health old.shard.logs.disk) (g.D.Disk.health c.delete.new.shard.logs.disk) old.faults was.health c.delete.ensures.ages
+          (subst (λ (why : DeleteFault). HasCause old.shard (g.D.Disk.health old.shard.logs.disk) (g.D.Disk.health c.delete.new.shard.logs.disk) why)
+          (deletion_fault_is c.in-Err.fault (sym c.tells_deletion_fault.ensures ∙ c.if-tells_deletion_fault.true)) c.in-Err.ensures.refused).0) was)
+          (roomy_reaches g.D.Disk start taken.entries c.take-held.result c.value-engine.result.now old c.value-engine.ensures.value c.has_room.ensures.shard c.has_room.ensures.faults taken.stands_for)),
+      noted_few old.found.items c.note.new.found.items c.of-2.result c.refusal old.shard.logs.series.keys [] c.delete.new.shard.logs.series.keys c.note.ensures c.of-2.ensures (c.delete.ensures.kept.series ∙ sym (append-nil old.shard.logs.series.keys)) (ap (λ (f : Facts). f.series) c.facts-series.ensures.are) (roomy_few g.D.Disk start taken.entries c.take-held.result c.value-engine.result.now old c.value-engine.ensures.value c.has_room.ensures.shard c.has_room.ensures.found taken.stands_for),
+      ran_same g.D.Disk start (Delete c.args.self.now.client c.args.deletion.now) _ (tried_in (refusals_in old.found.items)) (entry_tried c.args.self.now.client (deletion_attempt_of c.in-Err.fault (Deleted c.of.result)))
+          (tried_in (refusals_in c.note.new.found.items)) taken.entries old.shard c.delete.new.shard
+          (delete_stayed g.D.Disk _ c.args.self.now.client (Delete c.args.self.now.client c.args.deletion.now) (Deleted c.of.result) old.shard c.delete.new.shard c.in-Err.fault
+          (ap (λ (deletion : Deletion). Delete c.args.self.now.client deletion) c.of.ensures) c.in-Err.ensures.goes_on.stays c.in-Err.ensures.goes_on.untouched)
+          (tried_more old.found.items c.note.new.found.items c.of-2.result c.refusal c.note.ensures c.of-2.ensures
+          ∙ ap (λ (o : Option EntryNote). tried_in (refusals_in old.found.items) ++ entry_tried c.args.self.now.client o) c.deletion_attempt.ensures)
+          (roomy_ran g.D.Disk start taken.entries c.take-held.result c.value-engine.result.now old c.value-engine.ensures.value c.has_room.ensures.shard c.has_room.ensures.found taken.stands_for),
     )
 
-pub give-requires-in-Err-Fault-clause-loans : goal.give-requires-in-Err-Fault-clause-loans
-give-requires-in-Err-Fault-clause-loans g c =
+pub give-requires-then-tells_deletion_fault-clause-loans : goal.give-requires-then-tells_deletion_fault-clause-loans
+give-requires-then-tells_deletion_fault-clause-loans g c =
     let taken = c.take-held.ensures in
-    let old = c.value-engine.result.now in
+    let was = c.value-engine.result.now in
     rw (ap (λ (p : Pass g.row.D.Denot). p.view.loans_found) taken.now, ap (λ (p : Pass g.row.D.Denot). p.view.loans) taken.now, sym c.value-engine.ensures.value)
-    (change_fault old.shard.views old.faults (counts_in old.found.items) c.delete.new.shard.views (old.faults + 1) (counts_in old.found.items) c.args.self.now.pass.view.loans c.delete.ensures.kept.views refl refl)
+    (change_failed was.shard.views was.faults (refusals_in was.found.items) c.delete.new.shard.views (c.has_room.new.self.faults + 1) (refusals_in c.note.new.found.items) c.refusal
+    c.args.self.now.pass.view.loans (c.delete.ensures.kept.views ∙ ap (λ (s : Shard g.row.D.Denot). s.views) c.has_room.ensures.shard) (ap (λ n. n + 1) c.has_room.ensures.faults)
+    (noted_refusals was.found.items c.note.new.found.items c.of-2.result c.refusal
+    (c.note.ensures ∙ ap (λ (l : List (Snapshot Refusal)). l ++ c.of-2.result ∷ []) c.has_room.ensures.found) c.of-2.ensures))
 
-pub give-requires-in-Err-HistoryFull-clause-stands : goal.give-requires-in-Err-HistoryFull-clause-stands
-give-requires-in-Err-HistoryFull-clause-stands g c =
+pub give-requires-in-Err-clause-stands : goal.give-requires-in-Err-clause-stands
+give-requires-in-Err-clause-stands g c =
     let taken = c.take-held.ensures in
-    let old = c.value-engine.result.now in
+    let old = c.has_room.new.self in
     let start = c.args.self.now.pass.view.start in
     rw (ap (λ (p : Pass g.row.D.Denot). p.view.start) taken.now, ap (λ (p : Pass g.row.D.Denot). p.view.seen) taken.now) (
       none_more g.D.Disk start old.faults taken.entries c.delete.new.shard
           (from_any g.D.Disk start old.faults old.faults taken.entries taken.entries old.shard c.delete.new.shard
-          (λ s was. reaches_same g.D.Disk s (Delete c.args.self.now.client c.args.deletion.now) old.faults old.faults _ taken.entries old.shard c.delete.new.shard
-          (delete_makes_none g.D.Disk old.shard c.delete.new.shard c.in-Err-HistoryFull.ensures.err c.delete.ensures.kept) c.delete.ensures.ready c.delete.ensures.kept.handed_out
+          (λ s was. reaches_same g.D.Disk s old.faults old.faults taken.entries old.shard c.delete.new.shard
+          (delete_makes_none g.D.Disk old.shard c.delete.new.shard c.in-Err.ensures.err c.delete.ensures.kept) c.delete.ensures.ready c.delete.ensures.kept.handed_out
           (failed_same (g.D.Disk.health s.logs.disk) (g.D.Disk.health old.shard.logs.disk) (g.D.Disk.health c.delete.new.shard.logs.disk) old.faults was.health
-          (c.in-Err-HistoryFull.ensures.quiet (quiet_deletion (Err c.in-Err-HistoryFull.field-0) (ap (λ (why : DeleteFault). tells_failure (Err why)) c.in-Err-HistoryFull.field-0-is))))
-          c.in-Err-HistoryFull.ensures.goes_on.stays was)
-          (lent_reaches g.D.Disk start taken.entries c.take-held.result old c.value-engine.ensures.value taken.stands_for)),
-      few_grown (counts_in old.found.items) old.shard.logs.series.keys [] c.delete.new.shard.logs.series.keys (lent_few g.D.Disk start taken.entries c.take-held.result old c.value-engine.ensures.value taken.stands_for) (c.delete.ensures.kept.series ∙ sym (append-nil old.shard.logs.series.keys)),
+          (c.in-Err.ensures.quiet (quiet_deletion_refusal c.in-Err.fault (sym c.tells_deletion_fault.ensures ∙ c.if-tells_deletion_fault.false)))) was)
+          (roomy_reaches g.D.Disk start taken.entries c.take-held.result c.value-engine.result.now old c.value-engine.ensures.value c.has_room.ensures.shard c.has_room.ensures.faults taken.stands_for)),
+      noted_few old.found.items c.note.new.found.items c.of-2.result c.refusal old.shard.logs.series.keys [] c.delete.new.shard.logs.series.keys c.note.ensures c.of-2.ensures (c.delete.ensures.kept.series ∙ sym (append-nil old.shard.logs.series.keys)) (ap (λ (f : Facts). f.series) c.facts-series.ensures.are) (roomy_few g.D.Disk start taken.entries c.take-held.result c.value-engine.result.now old c.value-engine.ensures.value c.has_room.ensures.shard c.has_room.ensures.found taken.stands_for),
+      ran_same g.D.Disk start (Delete c.args.self.now.client c.args.deletion.now) _ (tried_in (refusals_in old.found.items)) (entry_tried c.args.self.now.client (deletion_attempt_of c.in-Err.fault (Deleted c.of.result)))
+          (tried_in (refusals_in c.note.new.found.items)) taken.entries old.shard c.delete.new.shard
+          (delete_stayed g.D.Disk _ c.args.self.now.client (Delete c.args.self.now.client c.args.deletion.now) (Deleted c.of.result) old.shard c.delete.new.shard c.in-Err.fault
+          (ap (λ (deletion : Deletion). Delete c.args.self.now.client deletion) c.of.ensures) c.in-Err.ensures.goes_on.stays c.in-Err.ensures.goes_on.untouched)
+          (tried_more old.found.items c.note.new.found.items c.of-2.result c.refusal c.note.ensures c.of-2.ensures
+          ∙ ap (λ (o : Option EntryNote). tried_in (refusals_in old.found.items) ++ entry_tried c.args.self.now.client o) c.deletion_attempt.ensures)
+          (roomy_ran g.D.Disk start taken.entries c.take-held.result c.value-engine.result.now old c.value-engine.ensures.value c.has_room.ensures.shard c.has_room.ensures.found taken.stands_for),
     )
 
-pub give-requires-in-Err-Memory-clause-stands : goal.give-requires-in-Err-Memory-clause-stands
-give-requires-in-Err-Memory-clause-stands g c =
+pub give-requires-in-Err-clause-loans : goal.give-requires-in-Err-clause-loans
+give-requires-in-Err-clause-loans g c =
     let taken = c.take-held.ensures in
-    let old = c.value-engine.result.now in
-    let start = c.args.self.now.pass.view.start in
-    rw (ap (λ (p : Pass g.row.D.Denot). p.view.start) taken.now, ap (λ (p : Pass g.row.D.Denot). p.view.seen) taken.now) (
-      none_more g.D.Disk start old.faults taken.entries c.delete.new.shard
-          (from_any g.D.Disk start old.faults old.faults taken.entries taken.entries old.shard c.delete.new.shard
-          (λ s was. reaches_same g.D.Disk s (Delete c.args.self.now.client c.args.deletion.now) old.faults old.faults _ taken.entries old.shard c.delete.new.shard
-          (delete_makes_none g.D.Disk old.shard c.delete.new.shard c.in-Err-Memory.ensures.err c.delete.ensures.kept) c.delete.ensures.ready c.delete.ensures.kept.handed_out
-          (failed_same (g.D.Disk.health s.logs.disk) (g.D.Disk.health old.shard.logs.disk) (g.D.Disk.health c.delete.new.shard.logs.disk) old.faults was.health
-          (c.in-Err-Memory.ensures.quiet (quiet_deletion (Err c.in-Err-Memory.field-0) (ap (λ (why : DeleteFault). tells_failure (Err why)) c.in-Err-Memory.field-0-is))))
-          c.in-Err-Memory.ensures.goes_on.stays was)
-          (lent_reaches g.D.Disk start taken.entries c.take-held.result old c.value-engine.ensures.value taken.stands_for)),
-      few_grown (counts_in old.found.items) old.shard.logs.series.keys [] c.delete.new.shard.logs.series.keys (lent_few g.D.Disk start taken.entries c.take-held.result old c.value-engine.ensures.value taken.stands_for) (c.delete.ensures.kept.series ∙ sym (append-nil old.shard.logs.series.keys)),
-    )
+    let was = c.value-engine.result.now in
+    rw (ap (λ (p : Pass g.row.D.Denot). p.view.loans_found) taken.now, ap (λ (p : Pass g.row.D.Denot). p.view.loans) taken.now, sym c.value-engine.ensures.value)
+    (change_found was.shard.views was.faults (refusals_in was.found.items) c.delete.new.shard.views c.has_room.new.self.faults (refusals_in c.note.new.found.items) c.refusal
+    c.args.self.now.pass.view.loans (c.delete.ensures.kept.views ∙ ap (λ (s : Shard g.row.D.Denot). s.views) c.has_room.ensures.shard) c.has_room.ensures.faults
+    (noted_refusals was.found.items c.note.new.found.items c.of-2.result c.refusal
+    (c.note.ensures ∙ ap (λ (l : List (Snapshot Refusal)). l ++ c.of-2.result ∷ []) c.has_room.ensures.found) c.of-2.ensures))
 
-pub returns-in-Err-Fault-clause-kept : goal.returns-in-Err-Fault-clause-kept
-returns-in-Err-Fault-clause-kept g c =
+pub returns-then-tells_deletion_fault-clause-kept : goal.returns-then-tells_deletion_fault-clause-kept
+returns-then-tells_deletion_fault-clause-kept g c =
     let taken = c.take-held.ensures in
     let was = c.args.self.now.pass.view in
     subst (λ (v : EngineView g.row.D.Denot). Keeps (told_over c.args.self.now.client was) (told_over c.args.self.now.client v))
-    (sym (gave c.args.self.now.pass c.take-held.new.pass c.give-in-Err-Fault.new.pass taken.entries _ _ _ [] _ (λ (l : List Lent). Fault ∷ l) taken.now c.give-in-Err-Fault.ensures))
-    (keeps c.args.self.now.client was.start was.seen (taken.entries ++ []) was.own was.own was.loans (Fault ∷ was.loans)
+    (sym (gave c.args.self.now.pass c.take-held.new.pass c.give-then-tells_deletion_fault.new.pass taken.entries _ _ _ [] _ (λ (l : List Lent). Fault ∷ Found c.refusal ∷ l) taken.now c.give-then-tells_deletion_fault.ensures))
+    (keeps c.args.self.now.client was.start was.seen (taken.entries ++ []) was.own was.own was.loans (Fault ∷ Found c.refusal ∷ was.loans)
     (starts_longer taken.entries was.seen [] taken.seen) (omega arith))
 
-pub returns-in-Err-Fault-clause-refused : goal.returns-in-Err-Fault-clause-refused
-returns-in-Err-Fault-clause-refused g c =
+pub returns-then-tells_deletion_fault-clause-refused : goal.returns-then-tells_deletion_fault-clause-refused
+returns-then-tells_deletion_fault-clause-refused g c =
     let taken = c.take-held.ensures in
-    let old = c.value-engine.result.now in
+    let old = c.has_room.new.self in
     let was = c.args.self.now.pass.view in
-    let came = lent_reaches g.D.Disk was.start taken.entries c.take-held.result old c.value-engine.ensures.value taken.stands_for in
-    subst (λ (v : EngineView g.row.D.Denot). DeleteHasCause (told_over c.args.self.now.client v) (health_by g.D.Disk was) (health_by g.D.Disk v) delete_fault.Fault)
-    (sym (gave c.args.self.now.pass c.take-held.new.pass c.give-in-Err-Fault.new.pass taken.entries _ _ _ [] _ (λ (l : List Lent). Fault ∷ l) taken.now c.give-in-Err-Fault.ensures))
-    (delete_cause g.D.Disk was.start old.faults c.args.self.now.client (taken.entries ++ []) was.own (Fault ∷ was.loans) old.shard
-    (none_more g.D.Disk was.start old.faults taken.entries old.shard came)
-    (g.D.Disk.health old.shard.logs.disk) (g.D.Disk.health c.delete.new.shard.logs.disk) (health_by g.D.Disk was) (record { faults = faults_lent was.loans + 1; is_steady = is_steady_at g.D.Disk was.start }) delete_fault.Fault
+    let start = was.start in
+    let came = roomy_reaches g.D.Disk start taken.entries c.take-held.result c.value-engine.result.now old c.value-engine.ensures.value c.has_room.ensures.shard c.has_room.ensures.faults taken.stands_for in
+    let few : length old.shard.logs.series.keys ≤ most_found (Fault ∷ Found c.refusal ∷ was.loans) =
+    let held = ap (λ (f : Facts). f.series) c.facts-series.ensures.are in
+    let more = ap (λ (l : List (List ℕ)). length l) (c.delete.ensures.kept.series ∙ sym (append-nil old.shard.logs.series.keys)) in
+    let sum = length-append old.shard.logs.series.keys [] in
+    omega (arith, held, more, sum) in
+    subst (λ (v : EngineView g.row.D.Denot). DeleteHasCause (told_over c.args.self.now.client v) (health_by g.D.Disk was) (health_by g.D.Disk v) c.in-Err.fault)
+    (sym (gave c.args.self.now.pass c.take-held.new.pass c.give-then-tells_deletion_fault.new.pass taken.entries _ _ _ [] _ (λ (l : List Lent). Fault ∷ Found c.refusal ∷ l) taken.now c.give-then-tells_deletion_fault.ensures))
+    (delete_cause g.D.Disk was.start old.faults c.args.self.now.client (taken.entries ++ []) was.own (Fault ∷ Found c.refusal ∷ was.loans) old.shard
+    (none_more g.D.Disk was.start old.faults taken.entries old.shard came) few
+    (g.D.Disk.health old.shard.logs.disk) (g.D.Disk.health c.delete.new.shard.logs.disk) (health_by g.D.Disk was) (record { faults = faults_lent was.loans + 1; is_steady = is_steady_at g.D.Disk was.start }) c.in-Err.fault
     (λ is fails. failed g.D.Disk was.start old.faults (faults_lent was.loans) taken.entries old.shard (g.D.Disk.health c.delete.new.shard.logs.disk) came fails)
-    (subst (λ (why : DeleteFault). HasCause old.shard (g.D.Disk.health old.shard.logs.disk) (g.D.Disk.health c.delete.new.shard.logs.disk) why) c.in-Err-Fault.field-0-is c.in-Err-Fault.ensures.refused))
+    c.in-Err.ensures.refused)
 
-pub returns-in-Err-HistoryFull-clause-refused : goal.returns-in-Err-HistoryFull-clause-refused
-returns-in-Err-HistoryFull-clause-refused g c =
-    let taken = c.take-held.ensures in
-    let old = c.value-engine.result.now in
-    let was = c.args.self.now.pass.view in
-    let came = lent_reaches g.D.Disk was.start taken.entries c.take-held.result old c.value-engine.ensures.value taken.stands_for in
-    subst (λ (v : EngineView g.row.D.Denot). DeleteHasCause (told_over c.args.self.now.client v) (health_by g.D.Disk was) (health_by g.D.Disk v) delete_fault.HistoryFull)
-    (sym (gave c.args.self.now.pass c.take-held.new.pass c.give-in-Err-HistoryFull.new.pass taken.entries _ _ _ [] _ (λ (l : List Lent). l) taken.now c.give-in-Err-HistoryFull.ensures))
-    (delete_cause g.D.Disk was.start old.faults c.args.self.now.client (taken.entries ++ []) was.own was.loans old.shard
-    (none_more g.D.Disk was.start old.faults taken.entries old.shard came)
-    (g.D.Disk.health old.shard.logs.disk) (g.D.Disk.health c.delete.new.shard.logs.disk) (health_by g.D.Disk was) (health_by g.D.Disk was) delete_fault.HistoryFull
-    (λ is fails. absurd (other_than_fault delete_fault.HistoryFull refl is))
-    (subst (λ (why : DeleteFault). HasCause old.shard (g.D.Disk.health old.shard.logs.disk) (g.D.Disk.health c.delete.new.shard.logs.disk) why) c.in-Err-HistoryFull.field-0-is c.in-Err-HistoryFull.ensures.refused))
-
-pub returns-in-Err-HistoryFull-clause-kept : goal.returns-in-Err-HistoryFull-clause-kept
-returns-in-Err-HistoryFull-clause-kept g c =
+pub returns-else-tells_deletion_fault-clause-kept : goal.returns-else-tells_deletion_fault-clause-kept
+returns-else-tells_deletion_fault-clause-kept g c =
     let taken = c.take-held.ensures in
     let was = c.args.self.now.pass.view in
     subst (λ (v : EngineView g.row.D.Denot). Keeps (told_over c.args.self.now.client was) (told_over c.args.self.now.client v))
-    (sym (gave c.args.self.now.pass c.take-held.new.pass c.give-in-Err-HistoryFull.new.pass taken.entries _ _ _ [] _ (λ (l : List Lent). l) taken.now c.give-in-Err-HistoryFull.ensures))
-    (keeps c.args.self.now.client was.start was.seen (taken.entries ++ []) was.own was.own was.loans was.loans
+    (sym (gave c.args.self.now.pass c.take-held.new.pass c.give-in-Err.new.pass taken.entries _ _ _ [] _ (λ (l : List Lent). Found c.refusal ∷ l) taken.now c.give-in-Err.ensures))
+    (keeps c.args.self.now.client was.start was.seen (taken.entries ++ []) was.own was.own was.loans (Found c.refusal ∷ was.loans)
     (starts_longer taken.entries was.seen [] taken.seen) (omega arith))
 
-pub returns-in-Err-Memory-clause-kept : goal.returns-in-Err-Memory-clause-kept
-returns-in-Err-Memory-clause-kept g c =
+pub returns-else-tells_deletion_fault-clause-refused : goal.returns-else-tells_deletion_fault-clause-refused
+returns-else-tells_deletion_fault-clause-refused g c =
+    let taken = c.take-held.ensures in
+    let old = c.has_room.new.self in
+    let was = c.args.self.now.pass.view in
+    let start = was.start in
+    let came = roomy_reaches g.D.Disk start taken.entries c.take-held.result c.value-engine.result.now old c.value-engine.ensures.value c.has_room.ensures.shard c.has_room.ensures.faults taken.stands_for in
+    let few : length old.shard.logs.series.keys ≤ most_found (Found c.refusal ∷ was.loans) =
+    let held = ap (λ (f : Facts). f.series) c.facts-series.ensures.are in
+    let more = ap (λ (l : List (List ℕ)). length l) (c.delete.ensures.kept.series ∙ sym (append-nil old.shard.logs.series.keys)) in
+    let sum = length-append old.shard.logs.series.keys [] in
+    omega (arith, held, more, sum) in
+    subst (λ (v : EngineView g.row.D.Denot). DeleteHasCause (told_over c.args.self.now.client v) (health_by g.D.Disk was) (health_by g.D.Disk v) c.in-Err.fault)
+    (sym (gave c.args.self.now.pass c.take-held.new.pass c.give-in-Err.new.pass taken.entries _ _ _ [] _ (λ (l : List Lent). Found c.refusal ∷ l) taken.now c.give-in-Err.ensures))
+    (delete_cause g.D.Disk was.start old.faults c.args.self.now.client (taken.entries ++ []) was.own (Found c.refusal ∷ was.loans) old.shard
+    (none_more g.D.Disk was.start old.faults taken.entries old.shard came) few
+    (g.D.Disk.health old.shard.logs.disk) (g.D.Disk.health c.delete.new.shard.logs.disk) (health_by g.D.Disk was) (health_by g.D.Disk was) c.in-Err.fault
+    (λ is fails. absurd (deletion_fault_isnt c.in-Err.fault (sym c.tells_deletion_fault.ensures ∙ c.if-tells_deletion_fault.false) is))
+    c.in-Err.ensures.refused)
+
+pub returns-in-Ok-clause-kept : goal.returns-in-Ok-clause-kept
+returns-in-Ok-clause-kept g c =
     let taken = c.take-held.ensures in
     let was = c.args.self.now.pass.view in
+    let entered = entered_by g.D.Disk (Delete c.args.self.now.client c.args.deletion.now) c.delete.new.shard in
     subst (λ (v : EngineView g.row.D.Denot). Keeps (told_over c.args.self.now.client was) (told_over c.args.self.now.client v))
-    (sym (gave c.args.self.now.pass c.take-held.new.pass c.give-in-Err-Memory.new.pass taken.entries _ _ _ [] _ (λ (l : List Lent). l) taken.now c.give-in-Err-Memory.ensures))
-    (keeps c.args.self.now.client was.start was.seen (taken.entries ++ []) was.own was.own was.loans was.loans
-    (starts_longer taken.entries was.seen [] taken.seen) (omega arith))
+    (sym (gave c.args.self.now.pass c.take-held.new.pass c.give-in-Ok.new.pass taken.entries _ _ _ (entered ∷ []) _ (λ (l : List Lent). l) taken.now c.give-in-Ok.ensures))
+    (keeps c.args.self.now.client was.start was.seen (taken.entries ++ entered ∷ []) was.own ((number_at was.start + length taken.entries + 1) ∷ was.own) was.loans was.loans
+    (starts_longer taken.entries was.seen (entered ∷ []) taken.seen) (omega arith))
 
-pub returns-in-Ok-clause-ok : goal.returns-in-Ok-clause-ok
-returns-in-Ok-clause-ok g c =
+pub returns-then-tells_deletion_fault-clause-err : goal.returns-then-tells_deletion_fault-clause-err
+returns-then-tells_deletion_fault-clause-err g c =
     let taken = c.take-held.ensures in
-    let old = c.value-engine.result.now in
     let was = c.args.self.now.pass.view in
-    subst (λ (v : EngineView g.row.D.Denot). Accepts (Delete c.args.self.now.client c.args.deletion.now) c.in-Ok.number (told_over c.args.self.now.client was) (told_over c.args.self.now.client v))
-    (sym (gave c.args.self.now.pass c.take-held.new.pass c.give-in-Ok.new.pass taken.entries _ _ _ (entered_by g.D.Disk (Delete c.args.self.now.client c.args.deletion.now) c.delete.new.shard ∷ []) _ (λ (l : List Lent). l) taken.now c.give-in-Ok.ensures))
-    (accepts g.D.Disk was.start old.faults c.args.self.now.client (Delete c.args.self.now.client c.args.deletion.now) c.in-Ok.number was.seen taken.entries
-    (entered_by g.D.Disk (Delete c.args.self.now.client c.args.deletion.now) c.delete.new.shard).moment was.own was.loans old.shard c.delete.new.shard taken.seen
-    (lent_reaches g.D.Disk was.start taken.entries c.take-held.result old c.value-engine.ensures.value taken.stands_for)
-    (delete_makes g.D.Disk c.args.self.now.client c.in-Ok.number c.args.deletion.now old.shard c.delete.new.shard c.in-Ok.ensures.ok c.delete.ensures.kept))
+    let asked = Delete c.args.self.now.client c.args.deletion.now in
+    subst (λ (v : EngineView g.row.D.Denot). Refuses asked (MayBeTried c.in-Err.fault) (told_over c.args.self.now.client was) (told_over c.args.self.now.client v))
+    (sym (gave c.args.self.now.pass c.take-held.new.pass c.give-then-tells_deletion_fault.new.pass taken.entries _ _ _ [] _ (λ (l : List Lent). Fault ∷ Found c.refusal ∷ l) taken.now c.give-then-tells_deletion_fault.ensures))
+    (refuses c.args.self.now.client was.start asked (MayBeTried c.in-Err.fault) was.seen (taken.entries ++ []) was.own was.loans (Fault ∷ Found c.refusal ∷ was.loans) refl
+    (subst (λ (o : Option EntryNote). TriesAtMost asked (MayBeTried c.in-Err.fault) (tried_lent was.loans) (entry_tried c.args.self.now.client o ++ tried_lent was.loans)) (sym c.deletion_attempt.ensures)
+    (delete_tries_before (tried_lent was.loans) asked c.args.self.now.client (Deleted c.of.result) (ap (λ (deletion : Deletion). Delete c.args.self.now.client deletion) c.of.ensures) c.in-Err.fault)))
+
+pub returns-else-tells_deletion_fault-clause-err : goal.returns-else-tells_deletion_fault-clause-err
+returns-else-tells_deletion_fault-clause-err g c =
+    let taken = c.take-held.ensures in
+    let was = c.args.self.now.pass.view in
+    let asked = Delete c.args.self.now.client c.args.deletion.now in
+    subst (λ (v : EngineView g.row.D.Denot). Refuses asked (MayBeTried c.in-Err.fault) (told_over c.args.self.now.client was) (told_over c.args.self.now.client v))
+    (sym (gave c.args.self.now.pass c.take-held.new.pass c.give-in-Err.new.pass taken.entries _ _ _ [] _ (λ (l : List Lent). Found c.refusal ∷ l) taken.now c.give-in-Err.ensures))
+    (refuses c.args.self.now.client was.start asked (MayBeTried c.in-Err.fault) was.seen (taken.entries ++ []) was.own was.loans (Found c.refusal ∷ was.loans) refl
+    (subst (λ (o : Option EntryNote). TriesAtMost asked (MayBeTried c.in-Err.fault) (tried_lent was.loans) (entry_tried c.args.self.now.client o ++ tried_lent was.loans)) (sym c.deletion_attempt.ensures)
+    (delete_tries_before (tried_lent was.loans) asked c.args.self.now.client (Deleted c.of.result) (ap (λ (deletion : Deletion). Delete c.args.self.now.client deletion) c.of.ensures) c.in-Err.fault)))
