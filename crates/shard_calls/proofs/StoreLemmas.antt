@@ -3,6 +3,7 @@ use Rattle.std.proofs.Common.{◌≡◌, ◌∙◌, ℕ, suc, ◌+◌, ◌<◌, 
 use Rattle.std.specs.Str.{bytes_eq}
 use Rattle.std.proofs.lemmas.Bool.{false≢true}
 use Rattle.std.proofs.lemmas.List.Folds.{list_any-append}
+use Rattle.shard_disk.specs.HandedOut.{HandedOut}
 use Rattle.shard_disk.specs.Health.{Health}
 use Rattle.shard_disk.specs.declared.disk.Disk.{Ghosts}
 use Rattle.tsdb_types.specs.declared.point.Point.{Point}
@@ -186,31 +187,33 @@ made-last (first ∷ made) one = ap (λ (es : List Entry). first.entry ∷ es) (
 pub one_out : (views : ℕ) → replicate {A = ℕ} (views + 1) 0 ≡ 0 ∷ replicate views 0
 one_out views = let e : views + 1 ≡ suc views = omega arith in ap (λ (n : ℕ). replicate {A = ℕ} n 0) e
 
-module _ {D R W : Type 0} (g : Ghosts D R W) (WasSound : ℕ → Type 0) (start : State) (first : List (List ℕ)) where
+module _ {D R W : Type 0} (g : Ghosts D R W) (WasSound : ℕ → Type 0) (start : State) (first : List (List ℕ)) (handed : HandedOut) where
   -- At the start.
   pub holds_none : (shard : Shard D) → IsReady g shard → state_of shard ≡ start → shard.logs.series.keys ≡ first → (IsTrue g.tells → (since : ℕ) → WasSound since → HasRun g start since [] shard)
-      → Holds g WasSound start first [] shard
-  holds_none shard ready at series ran = record {
+      → g.handed_out shard.logs.disk ≡ handed → Holds g WasSound start first handed [] shard
+  holds_none shard ready at series ran handed_out = record {
     ready = ready;
     state = at ∙ same_state _ _ _ _ refl (omega arith);
     series = subst (λ (keys : List (List ℕ)). HoldsSeries first [] keys) (sym series) (holds_nothing first);
     ran = ran;
+    handed_out = handed_out;
   }
 
   -- Views change nothing but their count.
   pub holds_views : (views : ℕ) (entries : List Entry) (shard : Shard D) → views ≤ shard.settings.views
-      → Holds g WasSound start first entries shard → Holds g WasSound start first entries (record shard { views = views })
+      → Holds g WasSound start first handed entries shard → Holds g WasSound start first handed entries (record shard { views = views })
   holds_views views entries shard few holds = record {
     ready = record { logs = holds.ready.logs; views = few };
     state = holds.state;
     series = holds.series;
     ran = λ tells since sound. let was = holds.ran tells since sound in record { made = was.made; are = was.are; refused = was.refused; doubt = was.doubt; runs = record { logs = was.runs.logs; points = was.runs.points } };
+    handed_out = holds.handed_out;
   }
 
   -- A refusal leaves the entries.
-  pub holds_same : (entries : List Entry) (old new : Shard D) (tried : Entry) (Fault : Type 0) → Holds g WasSound start first entries old
-      → MakesNone old new → IsReady g new → StaysBehind g Fault tried old new → Holds g WasSound start first entries new
-  holds_same entries old new tried Fault holds none ready stays = record {
+  pub holds_same : (entries : List Entry) (old new : Shard D) (tried : Entry) (Fault : Type 0) → Holds g WasSound start first handed entries old
+      → MakesNone old new → IsReady g new → StaysBehind g Fault tried old new → g.handed_out new.logs.disk ≡ g.handed_out old.logs.disk → Holds g WasSound start first handed entries new
+  holds_same entries old new tried Fault holds none ready stays same = record {
     ready = ready;
     state = none.state ∙ holds.state;
     series = holds_grown first old.logs.series.keys none.more new.logs.series.keys entries holds.series none.series;
@@ -218,12 +221,13 @@ module _ {D R W : Type 0} (g : Ghosts D R W) (WasSound : ℕ → Type 0) (start 
         let was = holds.ran tells since sound in
         let now = stays tells start since was.made was.refused was.doubt was.runs in
         record { made = was.made; are = was.are; refused = now.0; doubt = now.1; runs = now.3 };
+    handed_out = same ∙ holds.handed_out;
   }
 
   -- An entry more.
-  pub holds_more : (entries more : List Entry) (made : Entry) (number : ℕ) (old new : Shard D) → Holds g WasSound start first entries old
-      → MakesEntry made number old new → IsReady g new → GoesTo g made old new → more ≡ entries ++ made ∷ [] → Holds g WasSound start first more new
-  holds_more entries more made number old new holds makes ready goes is = subst (λ (es : List Entry). Holds g WasSound start first es new) (sym is) (record {
+  pub holds_more : (entries more : List Entry) (made : Entry) (number : ℕ) (old new : Shard D) → Holds g WasSound start first handed entries old
+      → MakesEntry made number old new → IsReady g new → GoesTo g made old new → g.handed_out new.logs.disk ≡ g.handed_out old.logs.disk → more ≡ entries ++ made ∷ [] → Holds g WasSound start first handed more new
+  holds_more entries more made number old new holds makes ready goes same is = subst (λ (es : List Entry). Holds g WasSound start first handed es new) (sym is) (record {
     ready = ready;
     state = makes.state ∙ ap (λ (s : State). state_after s (made ∷ [])) holds.state ∙ sym (state_after-append start entries (made ∷ []));
     series = holds_then first old.logs.series.keys new.logs.series.keys entries (made ∷ []) holds.series makes.series;
@@ -237,10 +241,11 @@ module _ {D R W : Type 0} (g : Ghosts D R W) (WasSound : ℕ → Type 0) (start 
           doubt = None;
           runs = goes tells start since was.made was.refused was.doubt was.runs;
         };
+    handed_out = same ∙ holds.handed_out;
   })
 
   module _ (client : ℕ) where
-    pub begins : (need : Need) (shown : Shown) (entries : List Entry) (old : Shard D) → Holds g WasSound start first entries old → Lends need shown old
+    pub begins : (need : Need) (shown : Shown) (entries : List Entry) (old : Shard D) → Holds g WasSound start first handed entries old → Lends need shown old
         → Begins need shown 0 false (told_of client start first entries old) (told_of client start first entries (record old { views = old.views + 1 }))
     begins need shown entries old holds lends = record {
       number = lends.number ∙ ap (λ (s : State). s.number) holds.state;
@@ -260,7 +265,7 @@ module _ {D R W : Type 0} (g : Ghosts D R W) (WasSound : ℕ → Type 0) (start 
       out = sym (ap (λ (n : ℕ). without 0 (replicate {A = ℕ} n 0)) is ∙ ap (λ (l : List ℕ). without 0 l) (one_out views));
     }
 
-    pub accepts : (entries more : List Entry) (made : Entry) (number : ℕ) (old new : Shard D) → Holds g WasSound start first entries old
+    pub accepts : (entries more : List Entry) (made : Entry) (number : ℕ) (old new : Shard D) → Holds g WasSound start first handed entries old
         → MakesEntry made number old new → more ≡ entries ++ made ∷ [] → Accepts made number (told_of client start first entries old) (told_of client start first more new)
     accepts entries more made number old new holds makes is = record {
       before = entries;
@@ -310,14 +315,14 @@ module _ {D R W : Type 0} (g : Ghosts D R W) (WasSound : ℕ → Type 0) (start 
     alike entries old new none = record { own = refl; out = ap (λ (n : ℕ). replicate n 0) none.views }
 
     -- Why a deletion was refused.
-    pub delete_cause : (entries : List Entry) (old new : Shard D) → Holds g WasSound start first entries old → (old_health new_health : Health) (why : DeleteFault)
+    pub delete_cause : (entries : List Entry) (old new : Shard D) → Holds g WasSound start first handed entries old → (old_health new_health : Health) (why : DeleteFault)
         → deleting.HasCause old old_health new_health why → DeleteHasCause (told_of client start first entries new) old_health new_health why
     delete_cause entries old new holds old_health new_health delete_fault.HistoryFull is = sym (ap (λ (s : State). s.number) holds.state) ∙ is
     delete_cause entries old new holds old_health new_health delete_fault.Memory is = tt
     delete_cause entries old new holds old_health new_health delete_fault.Fault is = (is.0, subst (λ (s : State). s.number < last_number) holds.state is.1)
 
     -- Why a batch was refused.
-    module _ (entries : List Entry) (old new : Shard D) (points : List Point) (holds : Holds g WasSound start first entries old) (kept : steps.Keeps old new) where
+    module _ (entries : List Entry) (old new : Shard D) (points : List Point) (holds : Holds g WasSound start first handed entries old) (kept : steps.Keeps old new) where
       within : (text : List ℕ) → is_among (all_texts (limits_of start first new) entries) text ≡ true → is_among old.logs.series.keys text ≡ true
       within = within_held first old.logs.series.keys entries holds.series
 

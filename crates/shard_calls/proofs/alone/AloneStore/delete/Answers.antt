@@ -16,10 +16,10 @@ use Rattle.shard_calls.proofs.alone.AloneStore.delete.Goals as goal
 
 pub invariant_of-self-in-Err : goal.invariant_of-self-in-Err
 invariant_of-self-in-Err g c =
-    subst (λ (l : List EntryNote). Holds g.D.Disk g.B.Site.is_sound g.B.Site.start g.B.Site.series (entries_of c.self.inside.client l) c.delete.new.shard) (sym c.reserve.ensures.items)
-    (holds_same g.D.Disk g.B.Site.is_sound g.B.Site.start g.B.Site.series (entries_of c.self.inside.client c.self.inside.notes.items) c.self.inside.shard c.delete.new.shard
+    subst (λ (l : List EntryNote). Holds g.D.Disk g.B.Site.is_sound g.B.Site.start g.B.Site.series g.B.Site.handed_out (entries_of c.self.inside.client l) c.delete.new.shard) (sym c.reserve.ensures.items)
+    (holds_same g.D.Disk g.B.Site.is_sound g.B.Site.start g.B.Site.series g.B.Site.handed_out (entries_of c.self.inside.client c.self.inside.notes.items) c.self.inside.shard c.delete.new.shard
     (Delete c.self.inside.client c.args.deletion.now) _ c.self.invariant
-    (delete_makes_none g.D.Disk c.self.inside.shard c.delete.new.shard c.in-Err.ensures.err c.delete.ensures.kept) c.delete.ensures.ready c.in-Err.ensures.goes_on.stays)
+    (delete_makes_none g.D.Disk c.self.inside.shard c.delete.new.shard c.in-Err.ensures.err c.delete.ensures.kept) c.delete.ensures.ready c.in-Err.ensures.goes_on.stays c.delete.ensures.kept.handed_out)
 
 pub returns-in-Err-clause-refused : goal.returns-in-Err-clause-refused
 returns-in-Err-clause-refused g c =
@@ -27,21 +27,21 @@ returns-in-Err-clause-refused g c =
     c.self.view_is
     (subst (λ (l : List EntryNote). DeleteHasCause (told_of c.self.inside.client g.B.Site.start g.B.Site.series (entries_of c.self.inside.client l) c.delete.new.shard)
     (g.D.Disk.health c.self.inside.shard.logs.disk) (g.D.Disk.health c.delete.new.shard.logs.disk) c.in-Err.refusal) (sym c.reserve.ensures.items)
-    (delete_cause g.D.Disk g.B.Site.is_sound g.B.Site.start g.B.Site.series c.self.inside.client (entries_of c.self.inside.client c.self.inside.notes.items) c.self.inside.shard c.delete.new.shard
+    (delete_cause g.D.Disk g.B.Site.is_sound g.B.Site.start g.B.Site.series g.B.Site.handed_out c.self.inside.client (entries_of c.self.inside.client c.self.inside.notes.items) c.self.inside.shard c.delete.new.shard
     c.self.invariant _ _ c.in-Err.refusal c.in-Err.ensures.refused))
 
 pub invariant_of-self-in-Ok : goal.invariant_of-self-in-Ok
 invariant_of-self-in-Ok g c =
-    holds_more g.D.Disk g.B.Site.is_sound g.B.Site.start g.B.Site.series (entries_of c.self.inside.client c.self.inside.notes.items) (entries_of c.self.inside.client c.add_note.new.notes.items)
+    holds_more g.D.Disk g.B.Site.is_sound g.B.Site.start g.B.Site.series g.B.Site.handed_out (entries_of c.self.inside.client c.self.inside.notes.items) (entries_of c.self.inside.client c.add_note.new.notes.items)
     (Delete c.self.inside.client c.args.deletion.now) c.in-Ok.number c.self.inside.shard c.delete.new.shard c.self.invariant
-    (delete_makes g.D.Disk c.self.inside.client c.in-Ok.number c.args.deletion.now c.self.inside.shard c.delete.new.shard c.in-Ok.ensures.ok c.delete.ensures.kept) c.delete.ensures.ready c.in-Ok.ensures.goes_on.ok
+    (delete_makes g.D.Disk c.self.inside.client c.in-Ok.number c.args.deletion.now c.self.inside.shard c.delete.new.shard c.in-Ok.ensures.ok c.delete.ensures.kept) c.delete.ensures.ready c.in-Ok.ensures.goes_on.ok c.delete.ensures.kept.handed_out
     (noted c.self.inside.client c.self.inside.notes.items c.reserve.new.self.items c.add_note.new.notes.items (Deleted c.of.result) (Delete c.self.inside.client c.args.deletion.now)
     c.reserve.ensures.items c.add_note.ensures (ap (λ (deletion : Deletion). Delete c.self.inside.client deletion) c.of.ensures))
 
 pub returns-in-Ok-clause-ok : goal.returns-in-Ok-clause-ok
 returns-in-Ok-clause-ok g c =
     subst (λ (s : Seen). Accepts (Delete s.told.client c.args.deletion.now) c.in-Ok.number s.told (told_of c.self.inside.client g.B.Site.start g.B.Site.series (entries_of c.self.inside.client c.add_note.new.notes.items) c.delete.new.shard)) c.self.view_is
-    (accepts g.D.Disk g.B.Site.is_sound g.B.Site.start g.B.Site.series c.self.inside.client (entries_of c.self.inside.client c.self.inside.notes.items) (entries_of c.self.inside.client c.add_note.new.notes.items)
+    (accepts g.D.Disk g.B.Site.is_sound g.B.Site.start g.B.Site.series g.B.Site.handed_out c.self.inside.client (entries_of c.self.inside.client c.self.inside.notes.items) (entries_of c.self.inside.client c.add_note.new.notes.items)
     (Delete c.self.inside.client c.args.deletion.now) c.in-Ok.number c.self.inside.shard c.delete.new.shard c.self.invariant
     (delete_makes g.D.Disk c.self.inside.client c.in-Ok.number c.args.deletion.now c.self.inside.shard c.delete.new.shard c.in-Ok.ensures.ok c.delete.ensures.kept)
     (noted c.self.inside.client c.self.inside.notes.items c.reserve.new.self.items c.add_note.new.notes.items (Deleted c.of.result) (Delete c.self.inside.client c.args.deletion.now)
