@@ -1,10 +1,11 @@
 -- What a step of the engine makes of what the store tells.
-use Rattle.std.proofs.Common.{◌≡◌, ◌∙◌, ℕ, suc, ◌+◌, ◌<◌, ◌≤◌, All, Any, true, false, List, [], ◌∷◌, ◌++◌, length, refl, sym, ap, subst, arith, length-append, append-nil, append_assoc, Contains, ◌⊎◌, inl, inr, ⊎_elim, replicate, IsTrue, Option, None, Some, Result, Ok, Err, IfOk, OnOk, OnErr}
+use Rattle.std.proofs.Common.{◌≡◌, ◌∙◌, ℕ, suc, ◌+◌, ◌<◌, ◌≤◌, All, Any, true, false, List, [], ◌∷◌, ◌++◌, length, refl, sym, ap, subst, arith, length-append, append-nil, append_assoc, Contains, ◌⊎◌, inl, inr, ⊎_elim, replicate, IsTrue, Option, None, Some, Result, Ok, Err, IfErr, IfOk, OnOk, OnErr}
 use Rattle.std.specs.List.{AllByRecursion}
 use Rattle.std.specs.Str.{bytes_eq}
 use Rattle.std.proofs.lemmas.Bool.{false≢true}
 use Rattle.std.proofs.lemmas.List.Elements.{Contains-append_cases, Contains-append_left, Contains-push, Contains-push_cases}
 use Rattle.std.proofs.lemmas.List.Folds.{list_any-append}
+use Rattle.shard_disk.specs.HandedOut.{HandedOut}
 use Rattle.shard_disk.specs.Health.{Health}
 use Rattle.shard_disk.specs.declared.disk.Disk.{Ghosts}
 use Rattle.tsdb_types.specs.declared.point.Point.{Point}
@@ -22,7 +23,7 @@ use Rattle.store_trait.specs.Calls.Entry.{Accepts, TakesEntry}
 use Rattle.store_trait.specs.Calls.Write.{IsOpen, FitsSeries, MayBeTried, PassesSeries, PassesCache, WriteHasCause, WritesSeries}
 use Rattle.store_trait.specs.Calls.View.{Begins, Ends, without}
 use Rattle.store_trait.specs.Notes.{entry_noted}
-use Rattle.store_trait.specs.Told.{Keeps, Refuses, TriesAtMost, last_number, numbers_from}
+use Rattle.store_trait.specs.Told.{Keeps, Refuses, Told, TriesAtMost, last_number, numbers_from}
 use Rattle.store_trait.specs.declared.note.EntryNote.{EntryNote}
 use Rattle.store_trait.specs.declared.fault.DeleteFault.{DeleteFault}
 use Rattle.store_trait.specs.declared.fault.DeleteFault.TheVariants as delete_fault
@@ -239,6 +240,15 @@ delete_tries client tried asked note is delete_fault.HistoryFull = λ entry at. 
 delete_tries client tried asked note is delete_fault.Memory = λ entry at. one_in tried asked (entry_noted client note) entry is at
 delete_tries client tried asked note is delete_fault.Fault = λ entry at. one_in tried asked (entry_noted client note) entry is at
 
+-- a store that stayed as it was refuses whatever it was asked for
+pub if_refused : {T : Type 0} (result : Result T WriteFault) (asked : Entry) (old new : Told) → new ≡ old → IfErr result (λ why. Refuses asked (MayBeTried why) old new)
+if_refused (Ok number) asked old new same = tt
+if_refused (Err why) asked old new same = subst (λ (t : Told). Refuses asked (MayBeTried why) old t) (sym same) (record { own = refl; out = refl; tried = λ entry at. inl at })
+
+pub if_deletion_refused : {T : Type 0} (result : Result T DeleteFault) (asked : Entry) (old new : Told) → new ≡ old → IfErr result (λ why. Refuses asked (MayBeTriedDelete why) old new)
+if_deletion_refused (Ok number) asked old new same = tt
+if_deletion_refused (Err why) asked old new same = subst (λ (t : Told). Refuses asked (MayBeTriedDelete why) old t) (sym same) (record { own = refl; out = refl; tried = λ entry at. inl at })
+
 -- the same where what was tried is noted before the others
 module _ (tried : List Entry) (asked : Entry) where
   none_before : (entry : Entry) (may : Type 0) → Contains ([] ++ tried) entry → Contains tried entry ⊎ (may × (asked ≡ entry))
@@ -291,31 +301,33 @@ made-last (first ∷ made) one = ap (λ (es : List Entry). first.entry ∷ es) (
 pub one_out : (views : ℕ) → replicate {A = ℕ} (views + 1) 0 ≡ 0 ∷ replicate views 0
 one_out views = let e : views + 1 ≡ suc views = omega arith in ap (λ (n : ℕ). replicate {A = ℕ} n 0) e
 
-module _ {D R W : Type 0} (g : Ghosts D R W) (WasSound : ℕ → Type 0) (start : State) (first : List (List ℕ)) where
+module _ {D R W : Type 0} (g : Ghosts D R W) (WasSound : ℕ → Type 0) (start : State) (first : List (List ℕ)) (handed : HandedOut) where
   -- At the start.
   pub holds_none : (shard : Shard D) → IsReady g shard → state_of shard ≡ start → shard.logs.series.keys ≡ first → (IsTrue g.tells → (since : ℕ) → WasSound since → HasRun g start since [] [] shard)
-      → Holds g WasSound start first [] [] shard
-  holds_none shard ready at series ran = record {
+      → g.handed_out shard.logs.disk ≡ handed → Holds g WasSound start first handed [] [] shard
+  holds_none shard ready at series ran handed_out = record {
     ready = ready;
     state = at ∙ same_state _ _ _ _ refl (omega arith);
     series = subst (λ (keys : List (List ℕ)). HoldsSeries first [] keys) (sym series) (holds_nothing first);
     ran = ran;
+    handed_out = handed_out;
   }
 
   -- Views change nothing but their count.
   pub holds_views : (views : ℕ) (entries tried : List Entry) (shard : Shard D) → views ≤ shard.settings.views
-      → Holds g WasSound start first entries tried shard → Holds g WasSound start first entries tried (record shard { views = views })
+      → Holds g WasSound start first handed entries tried shard → Holds g WasSound start first handed entries tried (record shard { views = views })
   holds_views views entries tried shard few holds = record {
     ready = record { logs = holds.ready.logs; views = few };
     state = holds.state;
     series = holds.series;
     ran = λ tells since sound. let was = holds.ran tells since sound in record { made = was.made; are = was.are; refused = was.refused; were_tried = was.were_tried; doubt = was.doubt; runs = record { logs = was.runs.logs; points = was.runs.points } };
+    handed_out = holds.handed_out;
   }
 
   -- A refusal leaves the entries.
-  pub holds_same : (entries tried more now : List Entry) (old new : Shard D) (asked : Entry) (Fault : Type 0) → Holds g WasSound start first entries tried old
-      → MakesNone old new → IsReady g new → Stayed g Fault asked more old new → now ≡ tried ++ more → Holds g WasSound start first entries now new
-  holds_same entries tried more now old new asked Fault holds none ready stayed is = record {
+  pub holds_same : (entries tried more now : List Entry) (old new : Shard D) (asked : Entry) (Fault : Type 0) → Holds g WasSound start first handed entries tried old
+      → MakesNone old new → IsReady g new → Stayed g Fault asked more old new → g.handed_out new.logs.disk ≡ g.handed_out old.logs.disk → now ≡ tried ++ more → Holds g WasSound start first handed entries now new
+  holds_same entries tried more now old new asked Fault holds none ready stayed same is = record {
     ready = ready;
     state = none.state ∙ holds.state;
     series = holds_grown first old.logs.series.keys none.more new.logs.series.keys entries holds.series none.series;
@@ -332,21 +344,22 @@ module _ {D R W : Type 0} (g : Ghosts D R W) (WasSound : ℕ → Type 0) (start 
           doubt = then.1;
           runs = then.3;
         }))
-        (λ same. record {
+        (λ left. record {
           made = was.made;
           are = was.are;
           refused = was.refused;
           were_tried = wider tried more was.refused was.were_tried;
           doubt = was.doubt;
-          runs = subst (λ (s : Shard D). Runs g s start since was.made was.refused was.doubt) (sym same.0) was.runs;
+          runs = subst (λ (s : Shard D). Runs g s start since was.made was.refused was.doubt) (sym left.0) was.runs;
         })
         stayed);
+    handed_out = same ∙ holds.handed_out;
   }
 
   -- An entry more.
-  pub holds_more : (entries more tried : List Entry) (made : Entry) (number : ℕ) (old new : Shard D) → Holds g WasSound start first entries tried old
-      → MakesEntry made number old new → IsReady g new → GoesTo g made old new → more ≡ entries ++ made ∷ [] → Holds g WasSound start first more tried new
-  holds_more entries more tried made number old new holds makes ready goes is = subst (λ (es : List Entry). Holds g WasSound start first es tried new) (sym is) (record {
+  pub holds_more : (entries more tried : List Entry) (made : Entry) (number : ℕ) (old new : Shard D) → Holds g WasSound start first handed entries tried old
+      → MakesEntry made number old new → IsReady g new → GoesTo g made old new → g.handed_out new.logs.disk ≡ g.handed_out old.logs.disk → more ≡ entries ++ made ∷ [] → Holds g WasSound start first handed more tried new
+  holds_more entries more tried made number old new holds makes ready goes same is = subst (λ (es : List Entry). Holds g WasSound start first handed es tried new) (sym is) (record {
     ready = ready;
     state = makes.state ∙ ap (λ (s : State). state_after s (made ∷ [])) holds.state ∙ sym (state_after-append start entries (made ∷ []));
     series = holds_then first old.logs.series.keys new.logs.series.keys entries (made ∷ []) holds.series makes.series;
@@ -361,10 +374,11 @@ module _ {D R W : Type 0} (g : Ghosts D R W) (WasSound : ℕ → Type 0) (start 
           doubt = None;
           runs = goes tells start since was.made was.refused was.doubt was.runs;
         };
+    handed_out = same ∙ holds.handed_out;
   })
 
   module _ (client : ℕ) where
-    pub begins : (need : Need) (shown : Shown) (entries tried : List Entry) (old : Shard D) → Holds g WasSound start first entries tried old → Lends need shown old
+    pub begins : (need : Need) (shown : Shown) (entries tried : List Entry) (old : Shard D) → Holds g WasSound start first handed entries tried old → Lends need shown old
         → Begins need shown 0 false (told_of client start first entries tried old) (told_of client start first entries tried (record old { views = old.views + 1 }))
     begins need shown entries tried old holds lends = record {
       number = lends.number ∙ ap (λ (s : State). s.number) holds.state;
@@ -386,7 +400,7 @@ module _ {D R W : Type 0} (g : Ghosts D R W) (WasSound : ℕ → Type 0) (start 
       out = sym (ap (λ (n : ℕ). without 0 (replicate {A = ℕ} n 0)) is ∙ ap (λ (l : List ℕ). without 0 l) (one_out views));
     }
 
-    pub accepts : (entries more tried : List Entry) (made : Entry) (number : ℕ) (old new : Shard D) → Holds g WasSound start first entries tried old
+    pub accepts : (entries more tried : List Entry) (made : Entry) (number : ℕ) (old new : Shard D) → Holds g WasSound start first handed entries tried old
         → MakesEntry made number old new → more ≡ entries ++ made ∷ [] → Accepts made number (told_of client start first entries tried old) (told_of client start first more tried new)
     accepts entries more tried made number old new holds makes is = record {
       before = entries;
@@ -442,14 +456,14 @@ module _ {D R W : Type 0} (g : Ghosts D R W) (WasSound : ℕ → Type 0) (start 
     }
 
     -- Why a deletion was refused.
-    pub delete_cause : (entries tried now : List Entry) (old new : Shard D) → Holds g WasSound start first entries tried old → (old_health new_health : Health) (why : DeleteFault)
+    pub delete_cause : (entries tried now : List Entry) (old new : Shard D) → Holds g WasSound start first handed entries tried old → (old_health new_health : Health) (why : DeleteFault)
         → deleting.HasCause old old_health new_health why → DeleteHasCause (told_of client start first entries now new) old_health new_health why
     delete_cause entries tried now old new holds old_health new_health delete_fault.HistoryFull is = sym (ap (λ (s : State). s.number) holds.state) ∙ is
     delete_cause entries tried now old new holds old_health new_health delete_fault.Memory is = tt
     delete_cause entries tried now old new holds old_health new_health delete_fault.Fault is = (is.0, subst (λ (s : State). s.number < last_number) holds.state is.1)
 
     -- Why a batch was refused.
-    module _ (entries tried now : List Entry) (old new : Shard D) (points : List Point) (holds : Holds g WasSound start first entries tried old) (kept : steps.Keeps old new) where
+    module _ (entries tried now : List Entry) (old new : Shard D) (points : List Point) (holds : Holds g WasSound start first handed entries tried old) (kept : steps.Keeps old new) where
       within : (text : List ℕ) → is_among (all_texts (limits_of start first new) entries) text ≡ true → is_among old.logs.series.keys text ≡ true
       within = within_held first old.logs.series.keys entries holds.series
 

@@ -1,6 +1,7 @@
 -- What holds of a store and its engine?
 use Rattle.std.specs.Prelude.{◌≡◌, ℕ, List, ◌++◌, Any, Contains, Option, IsTrue}
 use Rattle.std.specs.List.{AllByRecursion}
+use Rattle.shard_disk.specs.HandedOut.{HandedOut}
 use Rattle.shard_disk.specs.declared.disk.Disk.{Ghosts}
 use Rattle.point_model.specs.Histories.{State, state_after}
 use Rattle.point_model.specs.declared.entry.Entry.{Entry}
@@ -26,10 +27,12 @@ pub record HoldsSeries (first : List (List ℕ)) (entries : List Entry) (keys : 
   pub written : (text : List ℕ) → Any (WritesSeries text) entries → Contains keys text
 
 -- The engine is ready, and its points and number are those behind the entries. It holds the series of the start and of each entry. Where
--- the disk was sound since a moment, the engine ran since then.
-pub record Holds {D R W : Type 0} (g : Ghosts D R W) (IsSound : ℕ → Type 0) (start : State) (first : List (List ℕ))
+-- the disk was sound since a moment, the engine ran since then. Its disk has handed out what it had at the start: no reader is out more,
+-- and no file is adopted or given up.
+pub record Holds {D R W : Type 0} (g : Ghosts D R W) (IsSound : ℕ → Type 0) (start : State) (first : List (List ℕ)) (handed : HandedOut)
     (entries tried : List Entry) (shard : Shard D) : Type 0 where
   pub ready : IsReady g shard
   pub state : state_of shard ≡ state_after start entries
   pub series : HoldsSeries first entries shard.logs.series.keys
   pub ran : IsTrue g.tells → (since : ℕ) → IsSound since → HasRun g start since entries tried shard
+  pub handed_out : g.handed_out shard.logs.disk ≡ handed

@@ -38,7 +38,7 @@ impl<D: EngineDisk, B: Site> Model for Alone<D, B> {
 
     ghost view = { λ s. record { told = told_of s.client B.start B.series (entries_of s.client s.notes.items) (entries_tried s.client s.tried.items) s.shard; health = D.Disk.health s.shard.logs.disk } };
 
-    ghost invariant = { λ s. Holds D.Disk B.is_sound B.start B.series (entries_of s.client s.notes.items) (entries_tried s.client s.tried.items) s.shard };
+    ghost invariant = { λ s. Holds D.Disk B.is_sound B.start B.series B.handed_out (entries_of s.client s.notes.items) (entries_tried s.client s.tried.items) s.shard };
 }
 
 impl<D: EngineDisk, B: Site> Alone<D, B> {
@@ -49,6 +49,7 @@ impl<D: EngineDisk, B: Site> Alone<D, B> {
         requires start { state_of shard ≡ B.start }
         requires series { shard.logs.series.keys ≡ B.series }
         requires sound { IsTrue D.Disk.tells → (since : ℕ) → B.is_sound since → HasRun D.Disk B.start since [] [] shard }
+        requires handed_out { D.Disk.handed_out shard.logs.disk ≡ B.handed_out }
         ensures told { result.told ≡ told_of client B.start B.series [] [] shard }
         ensures health { result.health ≡ D.Disk.health shard.logs.disk }
     {
@@ -68,6 +69,8 @@ impl<D: EngineDisk, B: Site> Alone<D, B> {
         ensures holds { HoldsSeries B.series self.told.history result.logs.series.keys }
         ensures series { self.told.series ≡ length result.logs.series.keys }
         ensures health { self.health ≡ D.Disk.health result.logs.disk }
+        // No reader of the disk is out more than at the start, and it has adopted the same files.
+        ensures handed_out { D.Disk.handed_out result.logs.disk ≡ B.handed_out }
     {
         let Alone {
             client: _,

@@ -4,6 +4,7 @@ use std::marker::Brand;
 /// tells, and who lends one out knows by its type what the engine was that comes back.
 pub trait Site {
     ghost use Rattle.std.specs.Prelude.{ℕ, List};
+    ghost use Rattle.shard_disk.specs.HandedOut.{HandedOut};
     ghost use Rattle.point_model.specs.Histories.{State};
 
     /// The points in memory and the number of the last entry.
@@ -14,10 +15,13 @@ pub trait Site {
 
     /// What has to hold of the disk for the history to be durable since a moment.
     ghost is_sound: { ℕ → Type 0 };
+
+    /// What the disk has handed out: its next number, the readers that are out, and which files are adopted.
+    ghost handed_out: { HandedOut };
 }
 
 impl Site for Brand {
-    ghost use Rattle.std.specs.Prelude.{[], ⊤};
+    ghost use Rattle.std.specs.Prelude.{[], false, ⊤};
     ghost use Rattle.point_model.specs.Histories.{nothing};
 
     ghost start = { nothing };
@@ -25,4 +29,6 @@ impl Site for Brand {
     ghost series = { [] };
 
     ghost is_sound = { λ _. ⊤ };
+
+    ghost handed_out = { record { next_number = 0; readers = λ _. 0; adopted = λ _. false } };
 }

@@ -1,15 +1,14 @@
 -- A doubt is ended, and an engine's logs are closed.
-use Rattle.std.proofs.Common.{◌≡◌, inl, inr, ⊎_elim, ℕ, List, [], ◌∷◌, refl, sym, ap, subst, Option, None}
+use Rattle.std.proofs.Common.{◌≡◌, inl, inr, ⊎_elim, ℕ, List, [], ◌∷◌, ◌++◌, refl, sym, ap, subst, Option, None}
 use Rattle.std.specs.Prelude.{IsTrue, OnErr, OnOk, Result}
 use Rattle.std.specs.declared.result.Result.TheVariants.{Ok, Err}
 use Rattle.std.specs.Option.{option_to_list}
 use Rattle.shard_disk.specs.Crash.{Leaves}
-use Rattle.shard_disk.specs.Directory.{ChangesAt, Directory, Ends, HasFile}
+use Rattle.shard_disk.specs.Directory.{ChangesAt, Directory, Ends}
 use Rattle.shard_disk.specs.HandedOut.{HandedOut}
 use Rattle.shard_disk.specs.Health.{HasCause}
 use Rattle.shard_disk.specs.declared.disk.Disk.{Ghosts}
 use Rattle.shard_disk.specs.declared.trouble.Trouble.{Trouble}
-use Rattle.shard_disk.proofs.Everywhere.{file_weaker}
 use Rattle.gate_log.specs.Calls.Settle.{Settling}
 use Rattle.gate_log.specs.Log.{doubtful}
 use Rattle.gate_log.specs.Records.{WithAtMost}
@@ -21,17 +20,17 @@ use Rattle.manifest_log.specs.declared.directory.Directory.{Directory as Named}
 use Rattle.series_store.specs.Calls.{Kept}
 use Rattle.wal_store.specs.Segments.{Segments}
 use Rattle.shard_state.specs.declared.logs.Logs.{Logs}
-use Rattle.shard_state.specs.Books.{Books, IsClosedLog, IsSeriesFrom, state_in}
+use Rattle.shard_state.specs.Books.{Books, state_in}
 use Rattle.shard_state.specs.Calls.{Closes, SettlesDoubt}
 use Rattle.shard_state.specs.Crashes.{LeavesOnly}
 use Rattle.shard_state.specs.Engine.{AreAdopted, Holds}
 use Rattle.shard_state.specs.Layers.{HasLayers, by_age}
-use Rattle.shard_state.specs.Meaning.{StandsWithAtMost}
+use Rattle.shard_state.specs.Meaning.{NamesSeries, StandsWithAtMost}
 use Rattle.shard_state.specs.Opening.{IsSoundAtOpening, IsSoundWithAtMost}
 use Rattle.shard_state.proofs.Entering.{on_err_then}
 use Rattle.shard_state.proofs.GoingOn.{left_now, ran_still}
 use Rattle.shard_state.proofs.Images.{image_now, layers_image}
-use Rattle.shard_state.proofs.Standing.{StandsAs, StandsAsWithAtMost, image_named}
+use Rattle.shard_state.proofs.Standing.{StandsAs, StandsAsWithAtMost, image_named, series_named}
 use Rattle.shard_state.proofs.Steps.{keeps_left, may_be_next, settle_crash}
 
 -- what is so where a call was accepted and where it was refused
@@ -106,13 +105,12 @@ module _ {D R W : Type 0} (g : Ghosts D R W) (logs : Logs D) (books : Books) (do
       (image_named books (option_to_list doubt) holds.keeps.sound (may_be_next books doubt holds.keeps.latest.body holds.keeps.latest.doubts) (g.files logs.disk)
       (image_now (g.files logs.disk) (g.crashes logs.disk) logs.manifest.log logs.series logs.wal books doubt holds.keeps (g.files logs.disk) as_read))
 
--- its series file has the series that are held
-series_there : {D R W : Type 0} (g : Ghosts D R W) (logs : Logs D) (books : Books) (doubt : Option Entry) → (g.crashes logs.disk).now (g.files logs.disk) → Holds g logs books doubt → HasFile (g.files logs.disk) logs.series.log.file (IsSeriesFrom logs.series.keys)
+-- the series file that its manifest names has the series that are held, and maybe more
+series_there : {D R W : Type 0} (g : Ghosts D R W) (logs : Logs D) (books : Books) (doubt : Option Entry) → (g.crashes logs.disk).now (g.files logs.disk) → Holds g logs books doubt
+    → (more : List (List ℕ)) × NamesSeries (g.files logs.disk) (logs.series.keys ++ more)
 series_there g logs books doubt as_read holds =
     let image = image_now (g.files logs.disk) (g.crashes logs.disk) logs.manifest.log logs.series logs.wal books doubt holds.keeps (g.files logs.disk) as_read in
-    subst (λ (n : ℕ). HasFile (g.files logs.disk) n (IsSeriesFrom logs.series.keys)) (sym holds.keeps.series.own)
-    (subst (λ (l : List (List ℕ)). HasFile (g.files logs.disk) books.series_file (IsSeriesFrom l)) (sym holds.keeps.keys)
-    (file_weaker books.series_file (IsClosedLog (IsSeriesFrom books.series)) (IsSeriesFrom books.series) (λ bytes is. is.0) (g.files logs.disk) image.series))
+    subst (λ (l : List (List ℕ)). (more : List (List ℕ)) × NamesSeries (g.files logs.disk) (l ++ more)) (sym holds.keeps.keys) (series_named books (g.files logs.disk) (option_to_list doubt) holds.keeps.sound image)
 
 pub closes : {D R W : Type 0} (g : Ghosts D R W) (old new : Logs D) (result : Result (Unit {0}) Trouble) → SettlesDoubt g old new result → new ≡ record old { disk = new.disk; wal = new.wal } → (IsTrue g.tells → (g.crashes new.disk).now (g.files new.disk))
     → g.handed_out new.disk ≡ g.handed_out old.disk → HasCause result (g.health old.disk) (g.health new.disk) → Closes g old new.disk result
@@ -128,7 +126,7 @@ closes g old new result settles same as_read handed fault = record {
   crash = settles.crash;
   ran = λ told start since made refused doubt ran. either_way result settles.ran settles.ran_refused
       (λ ok. (ok told start since made refused doubt ran).survives) (λ stays. (stays told start since made refused doubt ran).survives);
-  series = λ told books doubt holds. subst (λ (k : Kept). HasFile (g.files new.disk) k.log.file (IsSeriesFrom k.keys)) (ap (λ (l : Logs _). l.series) same)
+  series = λ told books doubt holds. subst (λ (k : Kept). (more : List (List ℕ)) × NamesSeries (g.files new.disk) (k.keys ++ more)) (ap (λ (l : Logs _). l.series) same)
       (either_way result settles.ok settles.refused (λ ok. series_there g new books None (as_read told) (ok told books doubt holds)) (λ stays. series_there g new books doubt (as_read told) (stays told books doubt holds)));
   handed_out = handed;
   fault = fault;

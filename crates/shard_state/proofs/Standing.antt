@@ -21,7 +21,7 @@ use Rattle.wal_store.specs.Replay.{HasSegments, Holds, IsSegment, Logged, joined
 use Rattle.shard_state.proofs.Counting.{holds_next}
 use Rattle.shard_state.specs.Layers.{HasLayers, by_age, overlay}
 use Rattle.gate_log.specs.Records.{IsClosed}
-use Rattle.shard_state.specs.Meaning.{AreHeld, AreTaken, IsTaken, StandsFor, StandsWithAtMost, floor_of}
+use Rattle.shard_state.specs.Meaning.{AreHeld, AreTaken, IsTaken, NamesSeries, StandsFor, StandsWithAtMost, floor_of}
 use Rattle.shard_state.specs.Books.{AreBooks, Books, HasClosedSegments, IsClosedLog, IsImage, IsLatest, IsNext, IsSeriesFrom, meaning_of, next_logged, state_in, with_entry, with_series}
 
 held_more : (series more : List (List ℕ)) (points : List Point) → AreHeld series points → AreHeld (series ++ more) points
@@ -148,6 +148,20 @@ says_so books files sound named series layers earlier latest =
 series_of : (series : List (List ℕ)) (o : Option (List ℕ)) → IsSomeAnd o (IsClosedLog (IsSeriesFrom series)) → (more : List (List ℕ)) × IsSomeAnd o (IsClosedLog (IsSeriesFile (series ++ more)))
 series_of series None had = absurd had
 series_of series (Some bytes) had = (had.0.0, (had.0.1, had.1))
+
+-- an image names a series file that has the series of the books, and maybe more
+pub series_named : (books : Books) (files : Directory) (next : List Entry) → AreBooks books → IsImage books next files → (more : List (List ℕ)) × NamesSeries files (books.series ++ more)
+series_named books files next sound image =
+    let series = series_of books.series (get files books.series_file) image.series in
+    (
+      series.0,
+      record {
+        named = books.named;
+        manifest = file_weaker manifest (IsClosedLog (IsManifest books.named)) (IsManifest books.named) (λ bytes is. is.0) files image.manifest;
+        held = subst (λ (o : Option ℕ). IsSomeAnd o (λ file. HasFile files file (IsSeriesFile (books.series ++ series.0)))) (sym sound.series)
+            (file_weaker books.series_file (IsClosedLog (IsSeriesFile (books.series ++ series.0))) (IsSeriesFile (books.series ++ series.0)) (λ bytes is. is.0) files series.1);
+      },
+    )
 
 either_of : (P Q : List ℕ → Type 0) (o : Option (List ℕ)) → IsSomeAnd o (IsClosedLog (λ bytes. P bytes ⊎ Q bytes)) → IsSomeAnd o (IsClosedLog P) ⊎ IsSomeAnd o (IsClosedLog Q)
 either_of P Q None had = absurd had

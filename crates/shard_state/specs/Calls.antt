@@ -1,7 +1,7 @@
 -- What do the calls make of an engine's logs?
 use Rattle.std.specs.Prelude.{◌≡◌, ◌⊎◌, ℕ, ◌+◌, List, [], ◌∷◌, ◌++◌, Option, None, Result, IsErrOf, IsTrue, OnOk, OnErr}
 use Rattle.std.specs.Option.{option_to_list}
-use Rattle.shard_disk.specs.Directory.{Directory, HasFile}
+use Rattle.shard_disk.specs.Directory.{Directory}
 use Rattle.shard_disk.specs.Health.{HasCause}
 use Rattle.shard_disk.specs.declared.disk.Disk.{Ghosts}
 use Rattle.shard_disk.specs.declared.trouble.Trouble.{Trouble}
@@ -11,11 +11,11 @@ use Rattle.point_model.specs.declared.entry.Entry.{Entry}
 use Rattle.shard_state.specs.declared.logs.Logs.{Logs}
 use Rattle.shard_state.specs.declared.prepare.Prepared.{Prepared}
 use Rattle.wal_store.specs.Segments.{Recorded, SpellsRecord}
-use Rattle.shard_state.specs.Books.{Books, IsNext, IsSeriesFrom, state_in, with_entry, with_series}
+use Rattle.shard_state.specs.Books.{Books, IsNext, state_in, with_entry, with_series}
 use Rattle.shard_state.specs.Crashes.{LeavesOnly}
 use Rattle.shard_state.specs.Engine.{Holds, IsLeftEntry, IsRecordOf, MayFollow, Refused, series_in}
 use Rattle.shard_state.specs.History.{Made, Ran, Survives, entries_of}
-use Rattle.shard_state.specs.Meaning.{IsTaken, StandsWithAtMost}
+use Rattle.shard_state.specs.Meaning.{IsTaken, NamesSeries, StandsWithAtMost}
 use Rattle.shard_state.specs.Opening.{IsSoundThroughout, IsSoundWithAtMost}
 
 -- The series are held, or a refusal left those that were. What is in doubt of the entries stays so. A crash at any moment of the call
@@ -74,7 +74,8 @@ pub record SettlesDoubt {D R W : Type 0} (g : Ghosts D R W) (old new : Logs D) (
   pub ran_refused : OnErr result (IsTrue g.tells → (start : State) (since : ℕ) (made : List Made) (refused : List Entry) (doubt : Option Entry) → Ran g old start since made refused doubt → Ran g new start since made refused doubt)
 
 -- After Ok the disk stands for exactly the state, and every crash leaves it. After a refusal the entry that was in doubt may be there
--- besides. Either way the disk is sound as it is opened again, and its series file has the series that were held.
+-- besides. Either way the disk is sound as it is opened again, and the series file that its manifest names has the series that were
+-- held, with those behind them of a batch that was refused, where their record was in doubt and is there.
 pub record Closes {D R W : Type 0} (g : Ghosts D R W) (logs : Logs D) (disk : D) (result : Result (Unit {0}) Trouble) : Type 0 where
   pub ok : OnOk result (IsTrue g.tells → (books : Books) (doubt : Option Entry) → Holds g logs books doubt → IsSoundThroughout g disk (state_in books))
   pub refused : OnErr result (IsTrue g.tells → (books : Books) (doubt : Option Entry) → Holds g logs books doubt
@@ -83,6 +84,6 @@ pub record Closes {D R W : Type 0} (g : Ghosts D R W) (logs : Logs D) (disk : D)
       → LeavesOnly (StandsWithAtMost (state_in books) (option_to_list doubt)) (g.crashes logs.disk) (g.crashes disk)
   pub ran : IsTrue g.tells → (start : State) (since : ℕ) (made : List Made) (refused : List Entry) (doubt : Option Entry) → Ran g logs start since made refused doubt
       → Survives (g.crashes disk) start since made refused
-  pub series : IsTrue g.tells → (books : Books) (doubt : Option Entry) → Holds g logs books doubt → HasFile (g.files disk) logs.series.log.file (IsSeriesFrom logs.series.keys)
+  pub series : IsTrue g.tells → (books : Books) (doubt : Option Entry) → Holds g logs books doubt → (more : List (List ℕ)) × NamesSeries (g.files disk) (logs.series.keys ++ more)
   pub handed_out : g.handed_out disk ≡ g.handed_out logs.disk
   pub fault : HasCause result (g.health logs.disk) (g.health disk)

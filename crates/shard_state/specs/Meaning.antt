@@ -32,6 +32,12 @@ pub record Says (files : Directory) (meaning : Meaning) : Type 0 where
   pub layers : HasLayers files (by_age meaning.named.files) meaning.layers
   pub segments : HasSegments files meaning.named.segments meaning.segments
 
+-- The file that the manifest names as the series file has exactly these series.
+pub record NamesSeries (files : Directory) (series : List (List ℕ)) : Type 0 where
+  pub named : Named
+  pub manifest : HasFile files manifest (IsManifest named)
+  pub held : IsSomeAnd named.series (λ file. HasFile files file (IsSeriesFile series))
+
 -- it holds of the manifest and of each log that it names
 pub record OfLogs (P : ℕ → Type 0) (named : Named) : Type 0 where
   pub first : P manifest

@@ -9,6 +9,6 @@ use Rattle.shard_calls.proofs.alone.Alone.new.Goals as goal
 
 pub invariant_of-result : goal.invariant_of-result
 invariant_of-result g c =
-    subst (λ (l : List EntryNote). Holds g.D.Disk g.B.Site.is_sound g.B.Site.start g.B.Site.series (entries_of c.args.client l) (entries_tried c.args.client c.new-2.result.items) c.args.shard) (sym c.new.ensures.items)
-    (subst (λ (l : List (Option EntryNote)). Holds g.D.Disk g.B.Site.is_sound g.B.Site.start g.B.Site.series [] (entries_tried c.args.client l) c.args.shard) (sym c.new-2.ensures.items)
-    (holds_none g.D.Disk g.B.Site.is_sound g.B.Site.start g.B.Site.series c.args.shard c.requires.ready c.requires.start c.requires.series c.requires.sound))
+    subst (λ (l : List EntryNote). Holds g.D.Disk g.B.Site.is_sound g.B.Site.start g.B.Site.series g.B.Site.handed_out (entries_of c.args.client l) (entries_tried c.args.client c.new-2.result.items) c.args.shard) (sym c.new.ensures.items)
+    (subst (λ (l : List (Option EntryNote)). Holds g.D.Disk g.B.Site.is_sound g.B.Site.start g.B.Site.series g.B.Site.handed_out [] (entries_tried c.args.client l) c.args.shard) (sym c.new-2.ensures.items)
+    (holds_none g.D.Disk g.B.Site.is_sound g.B.Site.start g.B.Site.series g.B.Site.handed_out c.args.shard c.requires.ready c.requires.start c.requires.series c.requires.sound c.requires.handed_out))

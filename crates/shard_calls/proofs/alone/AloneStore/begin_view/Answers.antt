@@ -11,10 +11,10 @@ use Rattle.shard_calls.proofs.alone.AloneStore.begin_view.Goals as goal
 
 pub invariant_of-self : goal.invariant_of-self
 invariant_of-self g c =
-    let Has : Shard g.row.D.Denot → Type 0 = λ s. Holds g.D.Disk g.B.Site.is_sound g.B.Site.start g.B.Site.series (entries_of c.self.inside.client c.self.inside.notes.items) (entries_tried c.self.inside.client c.self.inside.tried.items) s in
+    let Has : Shard g.row.D.Denot → Type 0 = λ s. Holds g.D.Disk g.B.Site.is_sound g.B.Site.start g.B.Site.series g.B.Site.handed_out (entries_of c.self.inside.client c.self.inside.notes.items) (entries_tried c.self.inside.client c.self.inside.tried.items) s in
     by_result c.begin_view.result
     (λ out room. subst Has (sym out)
-    (holds_views g.D.Disk g.B.Site.is_sound g.B.Site.start g.B.Site.series (c.self.inside.shard.views + 1) (entries_of c.self.inside.client c.self.inside.notes.items) (entries_tried c.self.inside.client c.self.inside.tried.items) c.self.inside.shard
+    (holds_views g.D.Disk g.B.Site.is_sound g.B.Site.start g.B.Site.series g.B.Site.handed_out (c.self.inside.shard.views + 1) (entries_of c.self.inside.client c.self.inside.notes.items) (entries_tried c.self.inside.client c.self.inside.tried.items) c.self.inside.shard
     (omega (arith, room)) c.self.invariant))
     (λ same. subst Has (sym same) c.self.invariant)
     c.begin_view.ensures.out c.begin_view.ensures.room c.begin_view.ensures.err
@@ -26,5 +26,5 @@ returns-clause-ok g c =
     subst (λ (s : Seen). Begins c.args.need.now view 0 false s.told (told_of c.self.inside.client g.B.Site.start g.B.Site.series (entries_of c.self.inside.client c.self.inside.notes.items) (entries_tried c.self.inside.client c.self.inside.tried.items) c.begin_view.new.shard)) c.self.view_is
     (subst (λ (s : Shard g.row.D.Denot). Begins c.args.need.now view 0 false (told_of c.self.inside.client g.B.Site.start g.B.Site.series (entries_of c.self.inside.client c.self.inside.notes.items) (entries_tried c.self.inside.client c.self.inside.tried.items) c.self.inside.shard)
     (told_of c.self.inside.client g.B.Site.start g.B.Site.series (entries_of c.self.inside.client c.self.inside.notes.items) (entries_tried c.self.inside.client c.self.inside.tried.items) s)) (sym out)
-    (begins g.D.Disk g.B.Site.is_sound g.B.Site.start g.B.Site.series c.self.inside.client c.args.need.now view (entries_of c.self.inside.client c.self.inside.notes.items) (entries_tried c.self.inside.client c.self.inside.tried.items) c.self.inside.shard c.self.invariant lends)))
+    (begins g.D.Disk g.B.Site.is_sound g.B.Site.start g.B.Site.series g.B.Site.handed_out c.self.inside.client c.args.need.now view (entries_of c.self.inside.client c.self.inside.notes.items) (entries_tried c.self.inside.client c.self.inside.tried.items) c.self.inside.shard c.self.invariant lends)))
     c.begin_view.ensures.ok c.begin_view.ensures.out

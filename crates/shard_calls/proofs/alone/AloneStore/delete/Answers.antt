@@ -13,32 +13,33 @@ use Rattle.shard_calls.specs.Attempts.{deletion_attempt_of, entries_tried, entry
 use Rattle.shard_calls.specs.Holds.{Holds}
 use Rattle.shard_calls.specs.Told.{Seen, told_of}
 use Rattle.shard_calls.proofs.CountLemmas.{noted}
-use Rattle.shard_calls.proofs.StoreLemmas.{accepts, delete_cause, delete_makes, delete_makes_none, delete_stayed, delete_tries, holds_more, holds_same, refuses, tried_noted}
-use Rattle.shard_calls.proofs.alone.AloneStore.write.Goals as goal
+use Rattle.shard_calls.proofs.StoreLemmas.{accepts, delete_cause, delete_makes, delete_makes_none, delete_stayed, delete_tries, holds_more, holds_same, if_deletion_refused, refuses, tried_noted}
+use Rattle.shard_calls.proofs.alone.AloneStore.delete.Goals as goal
 
 pub invariant_of-self-in-Err : goal.invariant_of-self-in-Err
 invariant_of-self-in-Err g c =
-    subst (λ (l : List EntryNote). Holds g.D.Disk g.B.Site.is_sound g.B.Site.start g.B.Site.series (entries_of c.self.inside.client l) (entries_tried c.self.inside.client c.add_attempt.new.tried.items) c.delete.new.shard) (sym c.reserve.ensures.items)
-    (holds_same g.D.Disk g.B.Site.is_sound g.B.Site.start g.B.Site.series (entries_of c.self.inside.client c.self.inside.notes.items) (entries_tried c.self.inside.client c.self.inside.tried.items)
-    (entry_tried c.self.inside.client (deletion_attempt_of c.in-Err.refusal (Deleted c.of.result))) (entries_tried c.self.inside.client c.add_attempt.new.tried.items) c.self.inside.shard c.delete.new.shard
+    subst (λ (l : List EntryNote). Holds g.D.Disk g.B.Site.is_sound g.B.Site.start g.B.Site.series g.B.Site.handed_out (entries_of c.self.inside.client l) (entries_tried c.self.inside.client c.add_attempt.new.tried.items) c.delete.new.shard) (sym c.reserve.ensures.items)
+    (holds_same g.D.Disk g.B.Site.is_sound g.B.Site.start g.B.Site.series g.B.Site.handed_out (entries_of c.self.inside.client c.self.inside.notes.items) (entries_tried c.self.inside.client c.self.inside.tried.items)
+    (entry_tried c.self.inside.client (deletion_attempt_of c.in-Err.refusal (Deleted c.of-in-Err.result))) (entries_tried c.self.inside.client c.add_attempt.new.tried.items) c.self.inside.shard c.delete.new.shard
     (Delete c.self.inside.client c.args.deletion.now) _ c.self.invariant
     (delete_makes_none g.D.Disk c.self.inside.shard c.delete.new.shard c.in-Err.ensures.err c.delete.ensures.kept) c.delete.ensures.ready
-    (delete_stayed g.D.Disk _ c.self.inside.client (Delete c.self.inside.client c.args.deletion.now) (Deleted c.of.result) c.self.inside.shard c.delete.new.shard c.in-Err.refusal
-    (ap (λ (deletion : Deletion). Delete c.self.inside.client deletion) c.of.ensures) c.in-Err.ensures.goes_on.stays c.in-Err.ensures.goes_on.untouched)
-    (tried_noted c.self.inside.client c.self.inside.tried.items c.reserve-2.new.self.items c.add_attempt.new.tried.items c.deletion_attempt.result (deletion_attempt_of c.in-Err.refusal (Deleted c.of.result))
-    c.reserve-2.ensures.items c.add_attempt.ensures c.deletion_attempt.ensures))
+    (delete_stayed g.D.Disk _ c.self.inside.client (Delete c.self.inside.client c.args.deletion.now) (Deleted c.of-in-Err.result) c.self.inside.shard c.delete.new.shard c.in-Err.refusal
+    (ap (λ (deletion : Deletion). Delete c.self.inside.client deletion) c.of-in-Err.ensures) c.in-Err.ensures.goes_on.stays c.in-Err.ensures.goes_on.untouched)
+    c.delete.ensures.kept.handed_out
+    (tried_noted c.self.inside.client c.self.inside.tried.items c.reserve-2.new.self.items c.add_attempt.new.tried.items c.deletion_attempt-tried.result (deletion_attempt_of c.in-Err.refusal (Deleted c.of-in-Err.result))
+    c.reserve-2.ensures.items c.add_attempt.ensures c.deletion_attempt-tried.ensures))
 
 pub returns-in-Err-clause-err : goal.returns-in-Err-clause-err
 returns-in-Err-clause-err g c =
     subst (λ (s : Seen). Refuses (Delete s.told.client c.args.deletion.now) (MayBeTried c.in-Err.refusal) s.told (told_of c.self.inside.client g.B.Site.start g.B.Site.series (entries_of c.self.inside.client c.reserve.new.self.items) (entries_tried c.self.inside.client c.add_attempt.new.tried.items) c.delete.new.shard)) c.self.view_is
     (subst (λ (l : List EntryNote). Refuses (Delete c.self.inside.client c.args.deletion.now) (MayBeTried c.in-Err.refusal) (told_of c.self.inside.client g.B.Site.start g.B.Site.series (entries_of c.self.inside.client c.self.inside.notes.items) (entries_tried c.self.inside.client c.self.inside.tried.items) c.self.inside.shard)
     (told_of c.self.inside.client g.B.Site.start g.B.Site.series (entries_of c.self.inside.client l) (entries_tried c.self.inside.client c.add_attempt.new.tried.items) c.delete.new.shard)) (sym c.reserve.ensures.items)
-    (refuses g.D.Disk g.B.Site.is_sound g.B.Site.start g.B.Site.series c.self.inside.client (entries_of c.self.inside.client c.self.inside.notes.items) (entries_tried c.self.inside.client c.self.inside.tried.items)
-    (entry_tried c.self.inside.client (deletion_attempt_of c.in-Err.refusal (Deleted c.of.result))) (entries_tried c.self.inside.client c.add_attempt.new.tried.items) (Delete c.self.inside.client c.args.deletion.now) (MayBeTried c.in-Err.refusal) c.self.inside.shard c.delete.new.shard
+    (refuses g.D.Disk g.B.Site.is_sound g.B.Site.start g.B.Site.series g.B.Site.handed_out c.self.inside.client (entries_of c.self.inside.client c.self.inside.notes.items) (entries_tried c.self.inside.client c.self.inside.tried.items)
+    (entry_tried c.self.inside.client (deletion_attempt_of c.in-Err.refusal (Deleted c.of-in-Err.result))) (entries_tried c.self.inside.client c.add_attempt.new.tried.items) (Delete c.self.inside.client c.args.deletion.now) (MayBeTried c.in-Err.refusal) c.self.inside.shard c.delete.new.shard
     (delete_makes_none g.D.Disk c.self.inside.shard c.delete.new.shard c.in-Err.ensures.err c.delete.ensures.kept)
-    (delete_tries c.self.inside.client (entries_tried c.self.inside.client c.self.inside.tried.items) (Delete c.self.inside.client c.args.deletion.now) (Deleted c.of.result) (ap (λ (deletion : Deletion). Delete c.self.inside.client deletion) c.of.ensures) c.in-Err.refusal)
-    (tried_noted c.self.inside.client c.self.inside.tried.items c.reserve-2.new.self.items c.add_attempt.new.tried.items c.deletion_attempt.result (deletion_attempt_of c.in-Err.refusal (Deleted c.of.result))
-    c.reserve-2.ensures.items c.add_attempt.ensures c.deletion_attempt.ensures)))
+    (delete_tries c.self.inside.client (entries_tried c.self.inside.client c.self.inside.tried.items) (Delete c.self.inside.client c.args.deletion.now) (Deleted c.of-in-Err.result) (ap (λ (deletion : Deletion). Delete c.self.inside.client deletion) c.of-in-Err.ensures) c.in-Err.refusal)
+    (tried_noted c.self.inside.client c.self.inside.tried.items c.reserve-2.new.self.items c.add_attempt.new.tried.items c.deletion_attempt-tried.result (deletion_attempt_of c.in-Err.refusal (Deleted c.of-in-Err.result))
+    c.reserve-2.ensures.items c.add_attempt.ensures c.deletion_attempt-tried.ensures)))
 
 pub returns-in-Err-clause-refused : goal.returns-in-Err-clause-refused
 returns-in-Err-clause-refused g c =
@@ -46,15 +47,15 @@ returns-in-Err-clause-refused g c =
     c.self.view_is
     (subst (λ (l : List EntryNote). DeleteHasCause (told_of c.self.inside.client g.B.Site.start g.B.Site.series (entries_of c.self.inside.client l) (entries_tried c.self.inside.client c.add_attempt.new.tried.items) c.delete.new.shard)
     (g.D.Disk.health c.self.inside.shard.logs.disk) (g.D.Disk.health c.delete.new.shard.logs.disk) c.in-Err.refusal) (sym c.reserve.ensures.items)
-    (delete_cause g.D.Disk g.B.Site.is_sound g.B.Site.start g.B.Site.series c.self.inside.client (entries_of c.self.inside.client c.self.inside.notes.items) (entries_tried c.self.inside.client c.self.inside.tried.items) (entries_tried c.self.inside.client c.add_attempt.new.tried.items) c.self.inside.shard c.delete.new.shard
+    (delete_cause g.D.Disk g.B.Site.is_sound g.B.Site.start g.B.Site.series g.B.Site.handed_out c.self.inside.client (entries_of c.self.inside.client c.self.inside.notes.items) (entries_tried c.self.inside.client c.self.inside.tried.items) (entries_tried c.self.inside.client c.add_attempt.new.tried.items) c.self.inside.shard c.delete.new.shard
     c.self.invariant _ _ c.in-Err.refusal c.in-Err.ensures.refused))
 
 pub invariant_of-self-in-Ok : goal.invariant_of-self-in-Ok
 invariant_of-self-in-Ok g c =
-    subst (λ (l : List (Option EntryNote)). Holds g.D.Disk g.B.Site.is_sound g.B.Site.start g.B.Site.series (entries_of c.self.inside.client c.add_note.new.notes.items) (entries_tried c.self.inside.client l) c.delete.new.shard) (sym c.reserve-2.ensures.items)
-    (holds_more g.D.Disk g.B.Site.is_sound g.B.Site.start g.B.Site.series (entries_of c.self.inside.client c.self.inside.notes.items) (entries_of c.self.inside.client c.add_note.new.notes.items) (entries_tried c.self.inside.client c.self.inside.tried.items)
+    subst (λ (l : List (Option EntryNote)). Holds g.D.Disk g.B.Site.is_sound g.B.Site.start g.B.Site.series g.B.Site.handed_out (entries_of c.self.inside.client c.add_note.new.notes.items) (entries_tried c.self.inside.client l) c.delete.new.shard) (sym c.reserve-2.ensures.items)
+    (holds_more g.D.Disk g.B.Site.is_sound g.B.Site.start g.B.Site.series g.B.Site.handed_out (entries_of c.self.inside.client c.self.inside.notes.items) (entries_of c.self.inside.client c.add_note.new.notes.items) (entries_tried c.self.inside.client c.self.inside.tried.items)
     (Delete c.self.inside.client c.args.deletion.now) c.in-Ok.number c.self.inside.shard c.delete.new.shard c.self.invariant
-    (delete_makes g.D.Disk c.self.inside.client c.in-Ok.number c.args.batch.now c.self.inside.shard c.delete.new.shard c.in-Ok.ensures.ok c.delete.ensures.kept) c.delete.ensures.ready c.in-Ok.ensures.goes_on.ok
+    (delete_makes g.D.Disk c.self.inside.client c.in-Ok.number c.args.deletion.now c.self.inside.shard c.delete.new.shard c.in-Ok.ensures.ok c.delete.ensures.kept) c.delete.ensures.ready c.in-Ok.ensures.goes_on.ok c.delete.ensures.kept.handed_out
     (noted c.self.inside.client c.self.inside.notes.items c.reserve.new.self.items c.add_note.new.notes.items (Deleted c.of.result) (Delete c.self.inside.client c.args.deletion.now)
     c.reserve.ensures.items c.add_note.ensures (ap (λ (deletion : Deletion). Delete c.self.inside.client deletion) c.of.ensures)))
 
@@ -63,8 +64,15 @@ returns-in-Ok-clause-ok g c =
     subst (λ (s : Seen). Accepts (Delete s.told.client c.args.deletion.now) c.in-Ok.number s.told (told_of c.self.inside.client g.B.Site.start g.B.Site.series (entries_of c.self.inside.client c.add_note.new.notes.items) (entries_tried c.self.inside.client c.reserve-2.new.self.items) c.delete.new.shard)) c.self.view_is
     (subst (λ (l : List (Option EntryNote)). Accepts (Delete c.self.inside.client c.args.deletion.now) c.in-Ok.number (told_of c.self.inside.client g.B.Site.start g.B.Site.series (entries_of c.self.inside.client c.self.inside.notes.items) (entries_tried c.self.inside.client c.self.inside.tried.items) c.self.inside.shard)
     (told_of c.self.inside.client g.B.Site.start g.B.Site.series (entries_of c.self.inside.client c.add_note.new.notes.items) (entries_tried c.self.inside.client l) c.delete.new.shard)) (sym c.reserve-2.ensures.items)
-    (accepts g.D.Disk g.B.Site.is_sound g.B.Site.start g.B.Site.series c.self.inside.client (entries_of c.self.inside.client c.self.inside.notes.items) (entries_of c.self.inside.client c.add_note.new.notes.items) (entries_tried c.self.inside.client c.self.inside.tried.items)
+    (accepts g.D.Disk g.B.Site.is_sound g.B.Site.start g.B.Site.series g.B.Site.handed_out c.self.inside.client (entries_of c.self.inside.client c.self.inside.notes.items) (entries_of c.self.inside.client c.add_note.new.notes.items) (entries_tried c.self.inside.client c.self.inside.tried.items)
     (Delete c.self.inside.client c.args.deletion.now) c.in-Ok.number c.self.inside.shard c.delete.new.shard c.self.invariant
-    (delete_makes g.D.Disk c.self.inside.client c.in-Ok.number c.args.batch.now c.self.inside.shard c.delete.new.shard c.in-Ok.ensures.ok c.delete.ensures.kept)
+    (delete_makes g.D.Disk c.self.inside.client c.in-Ok.number c.args.deletion.now c.self.inside.shard c.delete.new.shard c.in-Ok.ensures.ok c.delete.ensures.kept)
     (noted c.self.inside.client c.self.inside.notes.items c.reserve.new.self.items c.add_note.new.notes.items (Deleted c.of.result) (Delete c.self.inside.client c.args.deletion.now)
     c.reserve.ensures.items c.add_note.ensures (ap (λ (deletion : Deletion). Delete c.self.inside.client deletion) c.of.ensures))))
+
+pub returns-in_err-reserve-2-clause-err : goal.returns-in_err-reserve-2-clause-err
+returns-in_err-reserve-2-clause-err g c =
+    if_deletion_refused _ _ _ _
+    (ap (λ (l : List EntryNote). told_of c.self.inside.client g.B.Site.start g.B.Site.series (entries_of c.self.inside.client l) (entries_tried c.self.inside.client c.reserve-2.new.self.items) c.self.inside.shard) c.reserve.ensures.items
+    ∙ ap (λ (l : List (Option EntryNote)). told_of c.self.inside.client g.B.Site.start g.B.Site.series (entries_of c.self.inside.client c.self.inside.notes.items) (entries_tried c.self.inside.client l) c.self.inside.shard) c.reserve-2.ensures.items
+    ∙ ap (λ (s : Seen). s.told) c.self.view_is)
