@@ -1,11 +1,12 @@
 -- The engine comes to one entry more, or stays at the same and notes what was refused.
-use Rattle.std.proofs.Common.{◌∙◌, ℕ, ◌+◌, ◌≤◌, ◌++◌, ◌∷◌, [], List, length, length-append, append-nil, ap, sym, subst, refl, arith, Option}
+use Rattle.std.proofs.Common.{◌∙◌, ℕ, ◌+◌, ◌≤◌, ◌++◌, ◌∷◌, [], List, length, append-nil, ap, sym, subst, refl, arith, Option}
 use Rattle.std.specs.declared.snapshot.Snapshot.{Snapshot}
 use Rattle.shard_steps.specs.declared.shard.Shard.{Shard}
 use Rattle.point_model.specs.declared.deletion.Deletion.{Deletion}
 use Rattle.point_model.specs.declared.entry.Entry.TheVariants.{Delete}
 use Rattle.history_turn.proofs.HistoriesLemmas.{starts_longer}
 use Rattle.store_trait.specs.Calls.Delete.{DeleteHasCause, MayBeTried}
+use Rattle.store_trait.specs.Calls.Entry.{Accepts}
 use Rattle.store_trait.specs.Told.{Keeps, Refuses, TriesAtMost}
 use Rattle.store_trait.specs.declared.note.EntryNote.{EntryNote}
 use Rattle.store_trait.specs.declared.note.EntryNote.TheVariants.{Deleted}
@@ -14,7 +15,7 @@ use Rattle.shard_steps.specs.Calls.Delete.{HasCause}
 use Rattle.shard_steps.specs.declared.facts.Facts.{Facts}
 use Rattle.shard_calls.specs.Attempts.{deletion_attempt_of, entry_tried}
 use Rattle.shard_calls.proofs.StoreLemmas.{delete_makes, delete_makes_none, delete_stayed, delete_tries_before}
-use Rattle.shard_shared.specs.Entries.{faults_lent, most_found, refusals_in, tried_in, tried_lent}
+use Rattle.shard_shared.specs.Entries.{faults_lent, refusals_in, tried_in, tried_lent}
 use Rattle.shard_shared.specs.Reaching.{entered_by}
 use Rattle.shard_shared.specs.Told.{EngineView, health_by, is_steady_at, number_at, told_over}
 use Rattle.shard_shared.specs.declared.engine.Lent.{Lent}
@@ -22,7 +23,7 @@ use Rattle.shard_shared.specs.declared.engine.Lent.TheVariants.{Fault, Found}
 use Rattle.shard_shared.specs.declared.engine.Refusal.{Refusal}
 use Rattle.shard_shared.proofs.EntriesLemmas.{change_failed, change_found, change_same, few_grown, noted_refusals, tried_more}
 use Rattle.shard_shared.proofs.ReachingLemmas.{failed_more, failed_same, from_any, ran_more, ran_same, ran_still, reaches_more, reaches_same}
-use Rattle.shard_shared.proofs.ToldLemmas.{delete_cause, failed, keeps, refuses}
+use Rattle.shard_shared.proofs.ToldLemmas.{accepts, delete_cause, failed, keeps, refuses}
 use Rattle.shard_shared.proofs.TurnLemmas.{Pass, deletion_fault_is, deletion_fault_isnt, gave, none_more, noted_few, quiet_deletion_answer, quiet_deletion_refusal, roomy_few, roomy_ran, roomy_reaches}
 use Rattle.shard_shared.proofs.shared.SharedStore.delete.Goals as goal
 
@@ -83,12 +84,12 @@ give-requires-then-tells_deletion_fault-clause-stands g c =
           (subst (λ (why : DeleteFault). HasCause old.shard (g.D.Disk.health old.shard.logs.disk) (g.D.Disk.health c.delete.new.shard.logs.disk) why)
           (deletion_fault_is c.in-Err.fault (sym c.tells_deletion_fault.ensures ∙ c.if-tells_deletion_fault.true)) c.in-Err.ensures.refused).0) was)
           (roomy_reaches g.D.Disk start taken.entries c.take-held.result c.value-engine.result.now old c.value-engine.ensures.value c.has_room.ensures.shard c.has_room.ensures.faults taken.stands_for)),
-      noted_few old.found.items c.note.new.found.items c.of-2.result c.refusal old.shard.logs.series.keys [] c.delete.new.shard.logs.series.keys c.note.ensures c.of-2.ensures (c.delete.ensures.kept.series ∙ sym (append-nil old.shard.logs.series.keys)) (ap (λ (f : Facts). f.series) c.facts-series.ensures.are) (roomy_few g.D.Disk start taken.entries c.take-held.result c.value-engine.result.now old c.value-engine.ensures.value c.has_room.ensures.shard c.has_room.ensures.found taken.stands_for),
+      noted_few old.found.items c.note.new.found.items c.of-in-Err.result (record { client = c.args.self.now.client; series = c.facts.result.series; tried = c.deletion_attempt.result }) old.shard.logs.series.keys [] c.delete.new.shard.logs.series.keys c.note.ensures c.of-in-Err.ensures (c.delete.ensures.kept.series ∙ sym (append-nil old.shard.logs.series.keys)) (ap (λ (f : Facts). f.series) c.facts.ensures.are) (roomy_few g.D.Disk start taken.entries c.take-held.result c.value-engine.result.now old c.value-engine.ensures.value c.has_room.ensures.shard c.has_room.ensures.found taken.stands_for),
       ran_same g.D.Disk start (Delete c.args.self.now.client c.args.deletion.now) _ (tried_in (refusals_in old.found.items)) (entry_tried c.args.self.now.client (deletion_attempt_of c.in-Err.fault (Deleted c.of.result)))
           (tried_in (refusals_in c.note.new.found.items)) taken.entries old.shard c.delete.new.shard
           (delete_stayed g.D.Disk _ c.args.self.now.client (Delete c.args.self.now.client c.args.deletion.now) (Deleted c.of.result) old.shard c.delete.new.shard c.in-Err.fault
           (ap (λ (deletion : Deletion). Delete c.args.self.now.client deletion) c.of.ensures) c.in-Err.ensures.goes_on.stays c.in-Err.ensures.goes_on.untouched)
-          (tried_more old.found.items c.note.new.found.items c.of-2.result c.refusal c.note.ensures c.of-2.ensures
+          (tried_more old.found.items c.note.new.found.items c.of-in-Err.result (record { client = c.args.self.now.client; series = c.facts.result.series; tried = c.deletion_attempt.result }) c.note.ensures c.of-in-Err.ensures
           ∙ ap (λ (o : Option EntryNote). tried_in (refusals_in old.found.items) ++ entry_tried c.args.self.now.client o) c.deletion_attempt.ensures)
           (roomy_ran g.D.Disk start taken.entries c.take-held.result c.value-engine.result.now old c.value-engine.ensures.value c.has_room.ensures.shard c.has_room.ensures.found taken.stands_for),
     )
@@ -98,10 +99,10 @@ give-requires-then-tells_deletion_fault-clause-loans g c =
     let taken = c.take-held.ensures in
     let was = c.value-engine.result.now in
     rw (ap (λ (p : Pass g.row.D.Denot). p.view.loans_found) taken.now, ap (λ (p : Pass g.row.D.Denot). p.view.loans) taken.now, sym c.value-engine.ensures.value)
-    (change_failed was.shard.views was.faults (refusals_in was.found.items) c.delete.new.shard.views (c.has_room.new.self.faults + 1) (refusals_in c.note.new.found.items) c.refusal
+    (change_failed was.shard.views was.faults (refusals_in was.found.items) c.delete.new.shard.views (c.has_room.new.self.faults + 1) (refusals_in c.note.new.found.items) (record { client = c.args.self.now.client; series = c.facts.result.series; tried = c.deletion_attempt.result })
     c.args.self.now.pass.view.loans (c.delete.ensures.kept.views ∙ ap (λ (s : Shard g.row.D.Denot). s.views) c.has_room.ensures.shard) (ap (λ n. n + 1) c.has_room.ensures.faults)
-    (noted_refusals was.found.items c.note.new.found.items c.of-2.result c.refusal
-    (c.note.ensures ∙ ap (λ (l : List (Snapshot Refusal)). l ++ c.of-2.result ∷ []) c.has_room.ensures.found) c.of-2.ensures))
+    (noted_refusals was.found.items c.note.new.found.items c.of-in-Err.result (record { client = c.args.self.now.client; series = c.facts.result.series; tried = c.deletion_attempt.result })
+    (c.note.ensures ∙ ap (λ (l : List (Snapshot Refusal)). l ++ c.of-in-Err.result ∷ []) c.has_room.ensures.found) c.of-in-Err.ensures))
 
 pub give-requires-in-Err-clause-stands : goal.give-requires-in-Err-clause-stands
 give-requires-in-Err-clause-stands g c =
@@ -116,12 +117,12 @@ give-requires-in-Err-clause-stands g c =
           (failed_same (g.D.Disk.health s.logs.disk) (g.D.Disk.health old.shard.logs.disk) (g.D.Disk.health c.delete.new.shard.logs.disk) old.faults was.health
           (c.in-Err.ensures.quiet (quiet_deletion_refusal c.in-Err.fault (sym c.tells_deletion_fault.ensures ∙ c.if-tells_deletion_fault.false)))) was)
           (roomy_reaches g.D.Disk start taken.entries c.take-held.result c.value-engine.result.now old c.value-engine.ensures.value c.has_room.ensures.shard c.has_room.ensures.faults taken.stands_for)),
-      noted_few old.found.items c.note.new.found.items c.of-2.result c.refusal old.shard.logs.series.keys [] c.delete.new.shard.logs.series.keys c.note.ensures c.of-2.ensures (c.delete.ensures.kept.series ∙ sym (append-nil old.shard.logs.series.keys)) (ap (λ (f : Facts). f.series) c.facts-series.ensures.are) (roomy_few g.D.Disk start taken.entries c.take-held.result c.value-engine.result.now old c.value-engine.ensures.value c.has_room.ensures.shard c.has_room.ensures.found taken.stands_for),
+      noted_few old.found.items c.note.new.found.items c.of-in-Err.result (record { client = c.args.self.now.client; series = c.facts.result.series; tried = c.deletion_attempt.result }) old.shard.logs.series.keys [] c.delete.new.shard.logs.series.keys c.note.ensures c.of-in-Err.ensures (c.delete.ensures.kept.series ∙ sym (append-nil old.shard.logs.series.keys)) (ap (λ (f : Facts). f.series) c.facts.ensures.are) (roomy_few g.D.Disk start taken.entries c.take-held.result c.value-engine.result.now old c.value-engine.ensures.value c.has_room.ensures.shard c.has_room.ensures.found taken.stands_for),
       ran_same g.D.Disk start (Delete c.args.self.now.client c.args.deletion.now) _ (tried_in (refusals_in old.found.items)) (entry_tried c.args.self.now.client (deletion_attempt_of c.in-Err.fault (Deleted c.of.result)))
           (tried_in (refusals_in c.note.new.found.items)) taken.entries old.shard c.delete.new.shard
           (delete_stayed g.D.Disk _ c.args.self.now.client (Delete c.args.self.now.client c.args.deletion.now) (Deleted c.of.result) old.shard c.delete.new.shard c.in-Err.fault
           (ap (λ (deletion : Deletion). Delete c.args.self.now.client deletion) c.of.ensures) c.in-Err.ensures.goes_on.stays c.in-Err.ensures.goes_on.untouched)
-          (tried_more old.found.items c.note.new.found.items c.of-2.result c.refusal c.note.ensures c.of-2.ensures
+          (tried_more old.found.items c.note.new.found.items c.of-in-Err.result (record { client = c.args.self.now.client; series = c.facts.result.series; tried = c.deletion_attempt.result }) c.note.ensures c.of-in-Err.ensures
           ∙ ap (λ (o : Option EntryNote). tried_in (refusals_in old.found.items) ++ entry_tried c.args.self.now.client o) c.deletion_attempt.ensures)
           (roomy_ran g.D.Disk start taken.entries c.take-held.result c.value-engine.result.now old c.value-engine.ensures.value c.has_room.ensures.shard c.has_room.ensures.found taken.stands_for),
     )
@@ -131,18 +132,18 @@ give-requires-in-Err-clause-loans g c =
     let taken = c.take-held.ensures in
     let was = c.value-engine.result.now in
     rw (ap (λ (p : Pass g.row.D.Denot). p.view.loans_found) taken.now, ap (λ (p : Pass g.row.D.Denot). p.view.loans) taken.now, sym c.value-engine.ensures.value)
-    (change_found was.shard.views was.faults (refusals_in was.found.items) c.delete.new.shard.views c.has_room.new.self.faults (refusals_in c.note.new.found.items) c.refusal
+    (change_found was.shard.views was.faults (refusals_in was.found.items) c.delete.new.shard.views c.has_room.new.self.faults (refusals_in c.note.new.found.items) (record { client = c.args.self.now.client; series = c.facts.result.series; tried = c.deletion_attempt.result })
     c.args.self.now.pass.view.loans (c.delete.ensures.kept.views ∙ ap (λ (s : Shard g.row.D.Denot). s.views) c.has_room.ensures.shard) c.has_room.ensures.faults
-    (noted_refusals was.found.items c.note.new.found.items c.of-2.result c.refusal
-    (c.note.ensures ∙ ap (λ (l : List (Snapshot Refusal)). l ++ c.of-2.result ∷ []) c.has_room.ensures.found) c.of-2.ensures))
+    (noted_refusals was.found.items c.note.new.found.items c.of-in-Err.result (record { client = c.args.self.now.client; series = c.facts.result.series; tried = c.deletion_attempt.result })
+    (c.note.ensures ∙ ap (λ (l : List (Snapshot Refusal)). l ++ c.of-in-Err.result ∷ []) c.has_room.ensures.found) c.of-in-Err.ensures))
 
 pub returns-then-tells_deletion_fault-clause-kept : goal.returns-then-tells_deletion_fault-clause-kept
 returns-then-tells_deletion_fault-clause-kept g c =
     let taken = c.take-held.ensures in
     let was = c.args.self.now.pass.view in
     subst (λ (v : EngineView g.row.D.Denot). Keeps (told_over c.args.self.now.client was) (told_over c.args.self.now.client v))
-    (sym (gave c.args.self.now.pass c.take-held.new.pass c.give-then-tells_deletion_fault.new.pass taken.entries _ _ _ [] _ (λ (l : List Lent). Fault ∷ Found c.refusal ∷ l) taken.now c.give-then-tells_deletion_fault.ensures))
-    (keeps c.args.self.now.client was.start was.seen (taken.entries ++ []) was.own was.own was.loans (Fault ∷ Found c.refusal ∷ was.loans)
+    (sym (gave c.args.self.now.pass c.take-held.new.pass c.give-then-tells_deletion_fault.new.pass taken.entries _ _ _ [] _ (λ (l : List Lent). Fault ∷ Found (record { client = c.args.self.now.client; series = c.facts.result.series; tried = c.deletion_attempt.result }) ∷ l) taken.now c.give-then-tells_deletion_fault.ensures))
+    (keeps c.args.self.now.client was.start was.seen (taken.entries ++ []) was.own was.own was.loans (Fault ∷ Found (record { client = c.args.self.now.client; series = c.facts.result.series; tried = c.deletion_attempt.result }) ∷ was.loans)
     (starts_longer taken.entries was.seen [] taken.seen) (omega arith))
 
 pub returns-then-tells_deletion_fault-clause-refused : goal.returns-then-tells_deletion_fault-clause-refused
@@ -152,15 +153,10 @@ returns-then-tells_deletion_fault-clause-refused g c =
     let was = c.args.self.now.pass.view in
     let start = was.start in
     let came = roomy_reaches g.D.Disk start taken.entries c.take-held.result c.value-engine.result.now old c.value-engine.ensures.value c.has_room.ensures.shard c.has_room.ensures.faults taken.stands_for in
-    let few : length old.shard.logs.series.keys ≤ most_found (Fault ∷ Found c.refusal ∷ was.loans) =
-    let held = ap (λ (f : Facts). f.series) c.facts-series.ensures.are in
-    let more = ap (λ (l : List (List ℕ)). length l) (c.delete.ensures.kept.series ∙ sym (append-nil old.shard.logs.series.keys)) in
-    let sum = length-append old.shard.logs.series.keys [] in
-    omega (arith, held, more, sum) in
     subst (λ (v : EngineView g.row.D.Denot). DeleteHasCause (told_over c.args.self.now.client v) (health_by g.D.Disk was) (health_by g.D.Disk v) c.in-Err.fault)
-    (sym (gave c.args.self.now.pass c.take-held.new.pass c.give-then-tells_deletion_fault.new.pass taken.entries _ _ _ [] _ (λ (l : List Lent). Fault ∷ Found c.refusal ∷ l) taken.now c.give-then-tells_deletion_fault.ensures))
-    (delete_cause g.D.Disk was.start old.faults c.args.self.now.client (taken.entries ++ []) was.own (Fault ∷ Found c.refusal ∷ was.loans) old.shard
-    (none_more g.D.Disk was.start old.faults taken.entries old.shard came) few
+    (sym (gave c.args.self.now.pass c.take-held.new.pass c.give-then-tells_deletion_fault.new.pass taken.entries _ _ _ [] _ (λ (l : List Lent). Fault ∷ Found (record { client = c.args.self.now.client; series = c.facts.result.series; tried = c.deletion_attempt.result }) ∷ l) taken.now c.give-then-tells_deletion_fault.ensures))
+    (delete_cause g.D.Disk was.start old.faults c.args.self.now.client (taken.entries ++ []) was.own (Fault ∷ Found (record { client = c.args.self.now.client; series = c.facts.result.series; tried = c.deletion_attempt.result }) ∷ was.loans) old.shard
+    (none_more g.D.Disk was.start old.faults taken.entries old.shard came)
     (g.D.Disk.health old.shard.logs.disk) (g.D.Disk.health c.delete.new.shard.logs.disk) (health_by g.D.Disk was) (record { faults = faults_lent was.loans + 1; is_steady = is_steady_at g.D.Disk was.start }) c.in-Err.fault
     (λ is fails. failed g.D.Disk was.start old.faults (faults_lent was.loans) taken.entries old.shard (g.D.Disk.health c.delete.new.shard.logs.disk) came fails)
     c.in-Err.ensures.refused)
@@ -170,8 +166,8 @@ returns-else-tells_deletion_fault-clause-kept g c =
     let taken = c.take-held.ensures in
     let was = c.args.self.now.pass.view in
     subst (λ (v : EngineView g.row.D.Denot). Keeps (told_over c.args.self.now.client was) (told_over c.args.self.now.client v))
-    (sym (gave c.args.self.now.pass c.take-held.new.pass c.give-in-Err.new.pass taken.entries _ _ _ [] _ (λ (l : List Lent). Found c.refusal ∷ l) taken.now c.give-in-Err.ensures))
-    (keeps c.args.self.now.client was.start was.seen (taken.entries ++ []) was.own was.own was.loans (Found c.refusal ∷ was.loans)
+    (sym (gave c.args.self.now.pass c.take-held.new.pass c.give-in-Err.new.pass taken.entries _ _ _ [] _ (λ (l : List Lent). Found (record { client = c.args.self.now.client; series = c.facts.result.series; tried = c.deletion_attempt.result }) ∷ l) taken.now c.give-in-Err.ensures))
+    (keeps c.args.self.now.client was.start was.seen (taken.entries ++ []) was.own was.own was.loans (Found (record { client = c.args.self.now.client; series = c.facts.result.series; tried = c.deletion_attempt.result }) ∷ was.loans)
     (starts_longer taken.entries was.seen [] taken.seen) (omega arith))
 
 pub returns-else-tells_deletion_fault-clause-refused : goal.returns-else-tells_deletion_fault-clause-refused
@@ -181,15 +177,10 @@ returns-else-tells_deletion_fault-clause-refused g c =
     let was = c.args.self.now.pass.view in
     let start = was.start in
     let came = roomy_reaches g.D.Disk start taken.entries c.take-held.result c.value-engine.result.now old c.value-engine.ensures.value c.has_room.ensures.shard c.has_room.ensures.faults taken.stands_for in
-    let few : length old.shard.logs.series.keys ≤ most_found (Found c.refusal ∷ was.loans) =
-    let held = ap (λ (f : Facts). f.series) c.facts-series.ensures.are in
-    let more = ap (λ (l : List (List ℕ)). length l) (c.delete.ensures.kept.series ∙ sym (append-nil old.shard.logs.series.keys)) in
-    let sum = length-append old.shard.logs.series.keys [] in
-    omega (arith, held, more, sum) in
     subst (λ (v : EngineView g.row.D.Denot). DeleteHasCause (told_over c.args.self.now.client v) (health_by g.D.Disk was) (health_by g.D.Disk v) c.in-Err.fault)
-    (sym (gave c.args.self.now.pass c.take-held.new.pass c.give-in-Err.new.pass taken.entries _ _ _ [] _ (λ (l : List Lent). Found c.refusal ∷ l) taken.now c.give-in-Err.ensures))
-    (delete_cause g.D.Disk was.start old.faults c.args.self.now.client (taken.entries ++ []) was.own (Found c.refusal ∷ was.loans) old.shard
-    (none_more g.D.Disk was.start old.faults taken.entries old.shard came) few
+    (sym (gave c.args.self.now.pass c.take-held.new.pass c.give-in-Err.new.pass taken.entries _ _ _ [] _ (λ (l : List Lent). Found (record { client = c.args.self.now.client; series = c.facts.result.series; tried = c.deletion_attempt.result }) ∷ l) taken.now c.give-in-Err.ensures))
+    (delete_cause g.D.Disk was.start old.faults c.args.self.now.client (taken.entries ++ []) was.own (Found (record { client = c.args.self.now.client; series = c.facts.result.series; tried = c.deletion_attempt.result }) ∷ was.loans) old.shard
+    (none_more g.D.Disk was.start old.faults taken.entries old.shard came)
     (g.D.Disk.health old.shard.logs.disk) (g.D.Disk.health c.delete.new.shard.logs.disk) (health_by g.D.Disk was) (health_by g.D.Disk was) c.in-Err.fault
     (λ is fails. absurd (deletion_fault_isnt c.in-Err.fault (sym c.tells_deletion_fault.ensures ∙ c.if-tells_deletion_fault.false) is))
     c.in-Err.ensures.refused)
@@ -210,8 +201,8 @@ returns-then-tells_deletion_fault-clause-err g c =
     let was = c.args.self.now.pass.view in
     let asked = Delete c.args.self.now.client c.args.deletion.now in
     subst (λ (v : EngineView g.row.D.Denot). Refuses asked (MayBeTried c.in-Err.fault) (told_over c.args.self.now.client was) (told_over c.args.self.now.client v))
-    (sym (gave c.args.self.now.pass c.take-held.new.pass c.give-then-tells_deletion_fault.new.pass taken.entries _ _ _ [] _ (λ (l : List Lent). Fault ∷ Found c.refusal ∷ l) taken.now c.give-then-tells_deletion_fault.ensures))
-    (refuses c.args.self.now.client was.start asked (MayBeTried c.in-Err.fault) was.seen (taken.entries ++ []) was.own was.loans (Fault ∷ Found c.refusal ∷ was.loans) refl
+    (sym (gave c.args.self.now.pass c.take-held.new.pass c.give-then-tells_deletion_fault.new.pass taken.entries _ _ _ [] _ (λ (l : List Lent). Fault ∷ Found (record { client = c.args.self.now.client; series = c.facts.result.series; tried = c.deletion_attempt.result }) ∷ l) taken.now c.give-then-tells_deletion_fault.ensures))
+    (refuses c.args.self.now.client was.start asked (MayBeTried c.in-Err.fault) was.seen (taken.entries ++ []) was.own was.loans (Fault ∷ Found (record { client = c.args.self.now.client; series = c.facts.result.series; tried = c.deletion_attempt.result }) ∷ was.loans) refl
     (subst (λ (o : Option EntryNote). TriesAtMost asked (MayBeTried c.in-Err.fault) (tried_lent was.loans) (entry_tried c.args.self.now.client o ++ tried_lent was.loans)) (sym c.deletion_attempt.ensures)
     (delete_tries_before (tried_lent was.loans) asked c.args.self.now.client (Deleted c.of.result) (ap (λ (deletion : Deletion). Delete c.args.self.now.client deletion) c.of.ensures) c.in-Err.fault)))
 
@@ -221,7 +212,19 @@ returns-else-tells_deletion_fault-clause-err g c =
     let was = c.args.self.now.pass.view in
     let asked = Delete c.args.self.now.client c.args.deletion.now in
     subst (λ (v : EngineView g.row.D.Denot). Refuses asked (MayBeTried c.in-Err.fault) (told_over c.args.self.now.client was) (told_over c.args.self.now.client v))
-    (sym (gave c.args.self.now.pass c.take-held.new.pass c.give-in-Err.new.pass taken.entries _ _ _ [] _ (λ (l : List Lent). Found c.refusal ∷ l) taken.now c.give-in-Err.ensures))
-    (refuses c.args.self.now.client was.start asked (MayBeTried c.in-Err.fault) was.seen (taken.entries ++ []) was.own was.loans (Found c.refusal ∷ was.loans) refl
+    (sym (gave c.args.self.now.pass c.take-held.new.pass c.give-in-Err.new.pass taken.entries _ _ _ [] _ (λ (l : List Lent). Found (record { client = c.args.self.now.client; series = c.facts.result.series; tried = c.deletion_attempt.result }) ∷ l) taken.now c.give-in-Err.ensures))
+    (refuses c.args.self.now.client was.start asked (MayBeTried c.in-Err.fault) was.seen (taken.entries ++ []) was.own was.loans (Found (record { client = c.args.self.now.client; series = c.facts.result.series; tried = c.deletion_attempt.result }) ∷ was.loans) refl
     (subst (λ (o : Option EntryNote). TriesAtMost asked (MayBeTried c.in-Err.fault) (tried_lent was.loans) (entry_tried c.args.self.now.client o ++ tried_lent was.loans)) (sym c.deletion_attempt.ensures)
     (delete_tries_before (tried_lent was.loans) asked c.args.self.now.client (Deleted c.of.result) (ap (λ (deletion : Deletion). Delete c.args.self.now.client deletion) c.of.ensures) c.in-Err.fault)))
+
+pub returns-in-Ok-clause-ok : goal.returns-in-Ok-clause-ok
+returns-in-Ok-clause-ok g c =
+    let taken = c.take-held.ensures in
+    let old = c.has_room.new.self in
+    let was = c.args.self.now.pass.view in
+    subst (λ (v : EngineView g.row.D.Denot). Accepts (Delete c.args.self.now.client c.args.deletion.now) c.in-Ok.number (told_over c.args.self.now.client was) (told_over c.args.self.now.client v))
+    (sym (gave c.args.self.now.pass c.take-held.new.pass c.give-in-Ok.new.pass taken.entries _ _ _ (entered_by g.D.Disk (Delete c.args.self.now.client c.args.deletion.now) c.delete.new.shard ∷ []) _ (λ (l : List Lent). l) taken.now c.give-in-Ok.ensures))
+    (accepts g.D.Disk was.start old.faults c.args.self.now.client (Delete c.args.self.now.client c.args.deletion.now) c.in-Ok.number was.seen taken.entries
+    (entered_by g.D.Disk (Delete c.args.self.now.client c.args.deletion.now) c.delete.new.shard).moment was.own was.loans old.shard c.delete.new.shard taken.seen
+    (roomy_reaches g.D.Disk was.start taken.entries c.take-held.result c.value-engine.result.now old c.value-engine.ensures.value c.has_room.ensures.shard c.has_room.ensures.faults taken.stands_for)
+    (delete_makes g.D.Disk c.args.self.now.client c.in-Ok.number c.args.deletion.now old.shard c.delete.new.shard c.in-Ok.ensures.ok c.delete.ensures.kept))

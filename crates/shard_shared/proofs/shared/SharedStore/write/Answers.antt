@@ -83,12 +83,12 @@ give-requires-then-tells_fault-clause-stands g c =
           (subst (λ (why : WriteFault). HasCause c.args.batch.now old.shard (g.D.Disk.health old.shard.logs.disk) (g.D.Disk.health c.write.new.shard.logs.disk) why)
           (fault_is c.in-Err.fault (sym c.tells_fault.ensures ∙ c.if-tells_fault.true)) c.in-Err.ensures.refused).0) was)
           (roomy_reaches g.D.Disk start taken.entries c.take-held.result c.value-engine.result.now old c.value-engine.ensures.value c.has_room.ensures.shard c.has_room.ensures.faults taken.stands_for)),
-      noted_few old.found.items c.note.new.found.items c.of-2.result c.refusal old.shard.logs.series.keys c.write.ensures.kept.more c.write.new.shard.logs.series.keys c.note.ensures c.of-2.ensures c.write.ensures.kept.series (ap (λ (f : Facts). f.series) c.facts-series.ensures.are) (roomy_few g.D.Disk start taken.entries c.take-held.result c.value-engine.result.now old c.value-engine.ensures.value c.has_room.ensures.shard c.has_room.ensures.found taken.stands_for),
+      noted_few old.found.items c.note.new.found.items c.of-in-Err.result (record { client = c.args.self.now.client; series = c.facts.result.series; tried = c.attempt.result }) old.shard.logs.series.keys c.write.ensures.kept.more c.write.new.shard.logs.series.keys c.note.ensures c.of-in-Err.ensures c.write.ensures.kept.series (ap (λ (f : Facts). f.series) c.facts.ensures.are) (roomy_few g.D.Disk start taken.entries c.take-held.result c.value-engine.result.now old c.value-engine.ensures.value c.has_room.ensures.shard c.has_room.ensures.found taken.stands_for),
       ran_same g.D.Disk start (Write c.args.self.now.client c.args.batch.now) _ (tried_in (refusals_in old.found.items)) (entry_tried c.args.self.now.client (attempt_of c.in-Err.fault (Written c.of.result)))
           (tried_in (refusals_in c.note.new.found.items)) taken.entries old.shard c.write.new.shard
           (write_stayed g.D.Disk _ c.args.self.now.client (Write c.args.self.now.client c.args.batch.now) (Written c.of.result) old.shard c.write.new.shard c.in-Err.fault
           (ap (λ (points : List Point). Write c.args.self.now.client points) c.of.ensures) c.in-Err.ensures.goes_on.stays c.in-Err.ensures.goes_on.untouched)
-          (tried_more old.found.items c.note.new.found.items c.of-2.result c.refusal c.note.ensures c.of-2.ensures
+          (tried_more old.found.items c.note.new.found.items c.of-in-Err.result (record { client = c.args.self.now.client; series = c.facts.result.series; tried = c.attempt.result }) c.note.ensures c.of-in-Err.ensures
           ∙ ap (λ (o : Option EntryNote). tried_in (refusals_in old.found.items) ++ entry_tried c.args.self.now.client o) c.attempt.ensures)
           (roomy_ran g.D.Disk start taken.entries c.take-held.result c.value-engine.result.now old c.value-engine.ensures.value c.has_room.ensures.shard c.has_room.ensures.found taken.stands_for),
     )
@@ -98,10 +98,10 @@ give-requires-then-tells_fault-clause-loans g c =
     let taken = c.take-held.ensures in
     let was = c.value-engine.result.now in
     rw (ap (λ (p : Pass g.row.D.Denot). p.view.loans_found) taken.now, ap (λ (p : Pass g.row.D.Denot). p.view.loans) taken.now, sym c.value-engine.ensures.value)
-    (change_failed was.shard.views was.faults (refusals_in was.found.items) c.write.new.shard.views (c.has_room.new.self.faults + 1) (refusals_in c.note.new.found.items) c.refusal
+    (change_failed was.shard.views was.faults (refusals_in was.found.items) c.write.new.shard.views (c.has_room.new.self.faults + 1) (refusals_in c.note.new.found.items) (record { client = c.args.self.now.client; series = c.facts.result.series; tried = c.attempt.result })
     c.args.self.now.pass.view.loans (c.write.ensures.kept.views ∙ ap (λ (s : Shard g.row.D.Denot). s.views) c.has_room.ensures.shard) (ap (λ n. n + 1) c.has_room.ensures.faults)
-    (noted_refusals was.found.items c.note.new.found.items c.of-2.result c.refusal
-    (c.note.ensures ∙ ap (λ (l : List (Snapshot Refusal)). l ++ c.of-2.result ∷ []) c.has_room.ensures.found) c.of-2.ensures))
+    (noted_refusals was.found.items c.note.new.found.items c.of-in-Err.result (record { client = c.args.self.now.client; series = c.facts.result.series; tried = c.attempt.result })
+    (c.note.ensures ∙ ap (λ (l : List (Snapshot Refusal)). l ++ c.of-in-Err.result ∷ []) c.has_room.ensures.found) c.of-in-Err.ensures))
 
 pub give-requires-in-Err-clause-stands : goal.give-requires-in-Err-clause-stands
 give-requires-in-Err-clause-stands g c =
@@ -116,12 +116,12 @@ give-requires-in-Err-clause-stands g c =
           (failed_same (g.D.Disk.health s.logs.disk) (g.D.Disk.health old.shard.logs.disk) (g.D.Disk.health c.write.new.shard.logs.disk) old.faults was.health
           (c.in-Err.ensures.quiet (quiet_refusal c.in-Err.fault (sym c.tells_fault.ensures ∙ c.if-tells_fault.false)))) was)
           (roomy_reaches g.D.Disk start taken.entries c.take-held.result c.value-engine.result.now old c.value-engine.ensures.value c.has_room.ensures.shard c.has_room.ensures.faults taken.stands_for)),
-      noted_few old.found.items c.note.new.found.items c.of-2.result c.refusal old.shard.logs.series.keys c.write.ensures.kept.more c.write.new.shard.logs.series.keys c.note.ensures c.of-2.ensures c.write.ensures.kept.series (ap (λ (f : Facts). f.series) c.facts-series.ensures.are) (roomy_few g.D.Disk start taken.entries c.take-held.result c.value-engine.result.now old c.value-engine.ensures.value c.has_room.ensures.shard c.has_room.ensures.found taken.stands_for),
+      noted_few old.found.items c.note.new.found.items c.of-in-Err.result (record { client = c.args.self.now.client; series = c.facts.result.series; tried = c.attempt.result }) old.shard.logs.series.keys c.write.ensures.kept.more c.write.new.shard.logs.series.keys c.note.ensures c.of-in-Err.ensures c.write.ensures.kept.series (ap (λ (f : Facts). f.series) c.facts.ensures.are) (roomy_few g.D.Disk start taken.entries c.take-held.result c.value-engine.result.now old c.value-engine.ensures.value c.has_room.ensures.shard c.has_room.ensures.found taken.stands_for),
       ran_same g.D.Disk start (Write c.args.self.now.client c.args.batch.now) _ (tried_in (refusals_in old.found.items)) (entry_tried c.args.self.now.client (attempt_of c.in-Err.fault (Written c.of.result)))
           (tried_in (refusals_in c.note.new.found.items)) taken.entries old.shard c.write.new.shard
           (write_stayed g.D.Disk _ c.args.self.now.client (Write c.args.self.now.client c.args.batch.now) (Written c.of.result) old.shard c.write.new.shard c.in-Err.fault
           (ap (λ (points : List Point). Write c.args.self.now.client points) c.of.ensures) c.in-Err.ensures.goes_on.stays c.in-Err.ensures.goes_on.untouched)
-          (tried_more old.found.items c.note.new.found.items c.of-2.result c.refusal c.note.ensures c.of-2.ensures
+          (tried_more old.found.items c.note.new.found.items c.of-in-Err.result (record { client = c.args.self.now.client; series = c.facts.result.series; tried = c.attempt.result }) c.note.ensures c.of-in-Err.ensures
           ∙ ap (λ (o : Option EntryNote). tried_in (refusals_in old.found.items) ++ entry_tried c.args.self.now.client o) c.attempt.ensures)
           (roomy_ran g.D.Disk start taken.entries c.take-held.result c.value-engine.result.now old c.value-engine.ensures.value c.has_room.ensures.shard c.has_room.ensures.found taken.stands_for),
     )
@@ -131,18 +131,18 @@ give-requires-in-Err-clause-loans g c =
     let taken = c.take-held.ensures in
     let was = c.value-engine.result.now in
     rw (ap (λ (p : Pass g.row.D.Denot). p.view.loans_found) taken.now, ap (λ (p : Pass g.row.D.Denot). p.view.loans) taken.now, sym c.value-engine.ensures.value)
-    (change_found was.shard.views was.faults (refusals_in was.found.items) c.write.new.shard.views c.has_room.new.self.faults (refusals_in c.note.new.found.items) c.refusal
+    (change_found was.shard.views was.faults (refusals_in was.found.items) c.write.new.shard.views c.has_room.new.self.faults (refusals_in c.note.new.found.items) (record { client = c.args.self.now.client; series = c.facts.result.series; tried = c.attempt.result })
     c.args.self.now.pass.view.loans (c.write.ensures.kept.views ∙ ap (λ (s : Shard g.row.D.Denot). s.views) c.has_room.ensures.shard) c.has_room.ensures.faults
-    (noted_refusals was.found.items c.note.new.found.items c.of-2.result c.refusal
-    (c.note.ensures ∙ ap (λ (l : List (Snapshot Refusal)). l ++ c.of-2.result ∷ []) c.has_room.ensures.found) c.of-2.ensures))
+    (noted_refusals was.found.items c.note.new.found.items c.of-in-Err.result (record { client = c.args.self.now.client; series = c.facts.result.series; tried = c.attempt.result })
+    (c.note.ensures ∙ ap (λ (l : List (Snapshot Refusal)). l ++ c.of-in-Err.result ∷ []) c.has_room.ensures.found) c.of-in-Err.ensures))
 
 pub returns-then-tells_fault-clause-kept : goal.returns-then-tells_fault-clause-kept
 returns-then-tells_fault-clause-kept g c =
     let taken = c.take-held.ensures in
     let was = c.args.self.now.pass.view in
     subst (λ (v : EngineView g.row.D.Denot). Keeps (told_over c.args.self.now.client was) (told_over c.args.self.now.client v))
-    (sym (gave c.args.self.now.pass c.take-held.new.pass c.give-then-tells_fault.new.pass taken.entries _ _ _ [] _ (λ (l : List Lent). Fault ∷ Found c.refusal ∷ l) taken.now c.give-then-tells_fault.ensures))
-    (keeps c.args.self.now.client was.start was.seen (taken.entries ++ []) was.own was.own was.loans (Fault ∷ Found c.refusal ∷ was.loans)
+    (sym (gave c.args.self.now.pass c.take-held.new.pass c.give-then-tells_fault.new.pass taken.entries _ _ _ [] _ (λ (l : List Lent). Fault ∷ Found (record { client = c.args.self.now.client; series = c.facts.result.series; tried = c.attempt.result }) ∷ l) taken.now c.give-then-tells_fault.ensures))
+    (keeps c.args.self.now.client was.start was.seen (taken.entries ++ []) was.own was.own was.loans (Fault ∷ Found (record { client = c.args.self.now.client; series = c.facts.result.series; tried = c.attempt.result }) ∷ was.loans)
     (starts_longer taken.entries was.seen [] taken.seen) (omega arith))
 
 pub returns-then-tells_fault-clause-refused : goal.returns-then-tells_fault-clause-refused
@@ -152,14 +152,14 @@ returns-then-tells_fault-clause-refused g c =
     let was = c.args.self.now.pass.view in
     let start = was.start in
     let came = roomy_reaches g.D.Disk start taken.entries c.take-held.result c.value-engine.result.now old c.value-engine.ensures.value c.has_room.ensures.shard c.has_room.ensures.faults taken.stands_for in
-    let few : length old.shard.logs.series.keys ≤ most_found (Fault ∷ Found c.refusal ∷ was.loans) =
-    let held = ap (λ (f : Facts). f.series) c.facts-series.ensures.are in
+    let few : length old.shard.logs.series.keys ≤ most_found (Fault ∷ Found (record { client = c.args.self.now.client; series = c.facts.result.series; tried = c.attempt.result }) ∷ was.loans) =
+    let held = ap (λ (f : Facts). f.series) c.facts.ensures.are in
     let more = ap (λ (l : List (List ℕ)). length l) c.write.ensures.kept.series in
     let sum = length-append old.shard.logs.series.keys c.write.ensures.kept.more in
     omega (arith, held, more, sum) in
     subst (λ (v : EngineView g.row.D.Denot). WriteHasCause c.args.batch.now (told_over c.args.self.now.client v) (health_by g.D.Disk was) (health_by g.D.Disk v) c.in-Err.fault)
-    (sym (gave c.args.self.now.pass c.take-held.new.pass c.give-then-tells_fault.new.pass taken.entries _ _ _ [] _ (λ (l : List Lent). Fault ∷ Found c.refusal ∷ l) taken.now c.give-then-tells_fault.ensures))
-    (cause g.D.Disk was.start old.faults c.args.self.now.client c.args.batch.now (taken.entries ++ []) was.own (Fault ∷ Found c.refusal ∷ was.loans) old.shard
+    (sym (gave c.args.self.now.pass c.take-held.new.pass c.give-then-tells_fault.new.pass taken.entries _ _ _ [] _ (λ (l : List Lent). Fault ∷ Found (record { client = c.args.self.now.client; series = c.facts.result.series; tried = c.attempt.result }) ∷ l) taken.now c.give-then-tells_fault.ensures))
+    (cause g.D.Disk was.start old.faults c.args.self.now.client c.args.batch.now (taken.entries ++ []) was.own (Fault ∷ Found (record { client = c.args.self.now.client; series = c.facts.result.series; tried = c.attempt.result }) ∷ was.loans) old.shard
     (none_more g.D.Disk was.start old.faults taken.entries old.shard came) few
     (g.D.Disk.health old.shard.logs.disk) (g.D.Disk.health c.write.new.shard.logs.disk) (health_by g.D.Disk was) (record { faults = faults_lent was.loans + 1; is_steady = is_steady_at g.D.Disk was.start }) c.in-Err.fault
     (λ is fails. failed g.D.Disk was.start old.faults (faults_lent was.loans) taken.entries old.shard (g.D.Disk.health c.write.new.shard.logs.disk) came fails)
@@ -170,8 +170,8 @@ returns-else-tells_fault-clause-kept g c =
     let taken = c.take-held.ensures in
     let was = c.args.self.now.pass.view in
     subst (λ (v : EngineView g.row.D.Denot). Keeps (told_over c.args.self.now.client was) (told_over c.args.self.now.client v))
-    (sym (gave c.args.self.now.pass c.take-held.new.pass c.give-in-Err.new.pass taken.entries _ _ _ [] _ (λ (l : List Lent). Found c.refusal ∷ l) taken.now c.give-in-Err.ensures))
-    (keeps c.args.self.now.client was.start was.seen (taken.entries ++ []) was.own was.own was.loans (Found c.refusal ∷ was.loans)
+    (sym (gave c.args.self.now.pass c.take-held.new.pass c.give-in-Err.new.pass taken.entries _ _ _ [] _ (λ (l : List Lent). Found (record { client = c.args.self.now.client; series = c.facts.result.series; tried = c.attempt.result }) ∷ l) taken.now c.give-in-Err.ensures))
+    (keeps c.args.self.now.client was.start was.seen (taken.entries ++ []) was.own was.own was.loans (Found (record { client = c.args.self.now.client; series = c.facts.result.series; tried = c.attempt.result }) ∷ was.loans)
     (starts_longer taken.entries was.seen [] taken.seen) (omega arith))
 
 pub returns-else-tells_fault-clause-refused : goal.returns-else-tells_fault-clause-refused
@@ -181,14 +181,14 @@ returns-else-tells_fault-clause-refused g c =
     let was = c.args.self.now.pass.view in
     let start = was.start in
     let came = roomy_reaches g.D.Disk start taken.entries c.take-held.result c.value-engine.result.now old c.value-engine.ensures.value c.has_room.ensures.shard c.has_room.ensures.faults taken.stands_for in
-    let few : length old.shard.logs.series.keys ≤ most_found (Found c.refusal ∷ was.loans) =
-    let held = ap (λ (f : Facts). f.series) c.facts-series.ensures.are in
+    let few : length old.shard.logs.series.keys ≤ most_found (Found (record { client = c.args.self.now.client; series = c.facts.result.series; tried = c.attempt.result }) ∷ was.loans) =
+    let held = ap (λ (f : Facts). f.series) c.facts.ensures.are in
     let more = ap (λ (l : List (List ℕ)). length l) c.write.ensures.kept.series in
     let sum = length-append old.shard.logs.series.keys c.write.ensures.kept.more in
     omega (arith, held, more, sum) in
     subst (λ (v : EngineView g.row.D.Denot). WriteHasCause c.args.batch.now (told_over c.args.self.now.client v) (health_by g.D.Disk was) (health_by g.D.Disk v) c.in-Err.fault)
-    (sym (gave c.args.self.now.pass c.take-held.new.pass c.give-in-Err.new.pass taken.entries _ _ _ [] _ (λ (l : List Lent). Found c.refusal ∷ l) taken.now c.give-in-Err.ensures))
-    (cause g.D.Disk was.start old.faults c.args.self.now.client c.args.batch.now (taken.entries ++ []) was.own (Found c.refusal ∷ was.loans) old.shard
+    (sym (gave c.args.self.now.pass c.take-held.new.pass c.give-in-Err.new.pass taken.entries _ _ _ [] _ (λ (l : List Lent). Found (record { client = c.args.self.now.client; series = c.facts.result.series; tried = c.attempt.result }) ∷ l) taken.now c.give-in-Err.ensures))
+    (cause g.D.Disk was.start old.faults c.args.self.now.client c.args.batch.now (taken.entries ++ []) was.own (Found (record { client = c.args.self.now.client; series = c.facts.result.series; tried = c.attempt.result }) ∷ was.loans) old.shard
     (none_more g.D.Disk was.start old.faults taken.entries old.shard came) few
     (g.D.Disk.health old.shard.logs.disk) (g.D.Disk.health c.write.new.shard.logs.disk) (health_by g.D.Disk was) (health_by g.D.Disk was) c.in-Err.fault
     (λ is fails. absurd (fault_isnt c.in-Err.fault (sym c.tells_fault.ensures ∙ c.if-tells_fault.false) is))
@@ -210,8 +210,8 @@ returns-then-tells_fault-clause-err g c =
     let was = c.args.self.now.pass.view in
     let asked = Write c.args.self.now.client c.args.batch.now in
     subst (λ (v : EngineView g.row.D.Denot). Refuses asked (MayBeTried c.in-Err.fault) (told_over c.args.self.now.client was) (told_over c.args.self.now.client v))
-    (sym (gave c.args.self.now.pass c.take-held.new.pass c.give-then-tells_fault.new.pass taken.entries _ _ _ [] _ (λ (l : List Lent). Fault ∷ Found c.refusal ∷ l) taken.now c.give-then-tells_fault.ensures))
-    (refuses c.args.self.now.client was.start asked (MayBeTried c.in-Err.fault) was.seen (taken.entries ++ []) was.own was.loans (Fault ∷ Found c.refusal ∷ was.loans) refl
+    (sym (gave c.args.self.now.pass c.take-held.new.pass c.give-then-tells_fault.new.pass taken.entries _ _ _ [] _ (λ (l : List Lent). Fault ∷ Found (record { client = c.args.self.now.client; series = c.facts.result.series; tried = c.attempt.result }) ∷ l) taken.now c.give-then-tells_fault.ensures))
+    (refuses c.args.self.now.client was.start asked (MayBeTried c.in-Err.fault) was.seen (taken.entries ++ []) was.own was.loans (Fault ∷ Found (record { client = c.args.self.now.client; series = c.facts.result.series; tried = c.attempt.result }) ∷ was.loans) refl
     (subst (λ (o : Option EntryNote). TriesAtMost asked (MayBeTried c.in-Err.fault) (tried_lent was.loans) (entry_tried c.args.self.now.client o ++ tried_lent was.loans)) (sym c.attempt.ensures)
     (write_tries_before (tried_lent was.loans) asked c.args.self.now.client (Written c.of.result) (ap (λ (points : List Point). Write c.args.self.now.client points) c.of.ensures) c.in-Err.fault)))
 
@@ -221,7 +221,7 @@ returns-else-tells_fault-clause-err g c =
     let was = c.args.self.now.pass.view in
     let asked = Write c.args.self.now.client c.args.batch.now in
     subst (λ (v : EngineView g.row.D.Denot). Refuses asked (MayBeTried c.in-Err.fault) (told_over c.args.self.now.client was) (told_over c.args.self.now.client v))
-    (sym (gave c.args.self.now.pass c.take-held.new.pass c.give-in-Err.new.pass taken.entries _ _ _ [] _ (λ (l : List Lent). Found c.refusal ∷ l) taken.now c.give-in-Err.ensures))
-    (refuses c.args.self.now.client was.start asked (MayBeTried c.in-Err.fault) was.seen (taken.entries ++ []) was.own was.loans (Found c.refusal ∷ was.loans) refl
+    (sym (gave c.args.self.now.pass c.take-held.new.pass c.give-in-Err.new.pass taken.entries _ _ _ [] _ (λ (l : List Lent). Found (record { client = c.args.self.now.client; series = c.facts.result.series; tried = c.attempt.result }) ∷ l) taken.now c.give-in-Err.ensures))
+    (refuses c.args.self.now.client was.start asked (MayBeTried c.in-Err.fault) was.seen (taken.entries ++ []) was.own was.loans (Found (record { client = c.args.self.now.client; series = c.facts.result.series; tried = c.attempt.result }) ∷ was.loans) refl
     (subst (λ (o : Option EntryNote). TriesAtMost asked (MayBeTried c.in-Err.fault) (tried_lent was.loans) (entry_tried c.args.self.now.client o ++ tried_lent was.loans)) (sym c.attempt.ensures)
     (write_tries_before (tried_lent was.loans) asked c.args.self.now.client (Written c.of.result) (ap (λ (points : List Point). Write c.args.self.now.client points) c.of.ensures) c.in-Err.fault)))
