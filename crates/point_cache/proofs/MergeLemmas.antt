@@ -4,8 +4,8 @@ use Rattle.std.specs.List.{AllByRecursion}
 use Rattle.std.specs.Ordering.{int_eq}
 use Rattle.std.proofs.lemmas.Int.{ints}
 use Rattle.std.proofs.lemmas.Bool.{cases_Bool, false≢true}
-use Rattle.std.proofs.lemmas.List.{take-append-drop, length-take-le}
-use Rattle.tombstones.proofs.RangeLemmas.{all-append, all-front, all-back, all-weaker}
+use Rattle.std.proofs.lemmas.List.{take-append-drop}
+use Rattle.tombstones.proofs.RangeLemmas.{all-append, all-back, all-weaker}
 use Rattle.tsdb_types.specs.declared.value.Value.{Value}
 use Rattle.point_model.specs.Rows.{Row}
 use Rattle.point_cache.specs.Cached.{AreAscending, later, latest}
@@ -56,8 +56,10 @@ union_from first second union t u a b =
   where
     either : (s r : ℤ) → (s ≤ℤ r) ⊎ (r <ℤ s)
     either s r = grind (arith, ints)
+
     gone : (s : ℤ) (xs : List Row) → s <ℤ t → AllByRecursion (λ r. t ≤ℤ r.0) xs → latest xs s ≡ None
     gone s xs low all = none_before s xs (all-weaker (λ r. t ≤ℤ r.0) (λ r. s <ℤ r.0) (λ r up. omega (arith, ints)) xs all)
+
     none : (s : ℤ) → s <ℤ t → is_some (latest union s) ≡ true → false ≡ true
     none s low some = sym (ap is_some (u.values s ∙ ap (λ (v : Option Value). later v (latest second s)) (gone s first low a) ∙ ap (later None) (gone s second low b))) ∙ some
 
@@ -95,6 +97,7 @@ step_value t front same rest y left equal up over_left =
   where
     behind : (xs : List Row) → t ≡ y.0 → AllByRecursion (λ r. y.0 <ℤ r.0) xs → latest xs t ≡ None
     behind xs is all = subst (λ (s : ℤ). latest xs s ≡ None) (sym is) (none_before y.0 xs all)
+
     by : (b : Bool) → int_eq t y.0 ≡ b → later (later (latest front t) (later (value_of y t) (latest rest t))) (latest left t) ≡ later (later (latest front t) (later (latest same t) (latest rest t))) (later (value_of y t) (latest left t))
     by true e = step_own (latest front t) (latest same t) (latest rest t) (value_of y t) (latest left t) (behind rest (same_time t y.0 e) up) (behind left (same_time t y.0 e) over_left) (ap (λ (b : Bool). is_some (if b then Some y.1 else None)) e)
     by false e = step_other (latest front t) (latest same t) (latest rest t) (value_of y t) (latest left t)
@@ -195,6 +198,7 @@ drop_drop xs i j k e = by xs i j ∙ ap (λ (n : ℕ). drop n xs) (sym e)
     nothing : (n : ℕ) → drop {A = Row} n [] ≡ []
     nothing zero = refl
     nothing (suc n) = refl
+
     by : (ys : List Row) (m n : ℕ) → drop n (drop m ys) ≡ drop (m + n) ys
     by ys zero n = let e : n ≡ 0 + n = omega arith in ap (λ (k : ℕ). drop k ys) e
     by [] (suc m) n = nothing n ∙ sym (nothing (suc m + n))

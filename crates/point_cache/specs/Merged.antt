@@ -1,5 +1,5 @@
 -- How do the points of a batch come among those of a key?
-use Rattle.std.specs.Prelude.{◌≡◌, ℕ, ℤ, ◌+◌, ◌≤◌, ◌≤ℤ◌, ◌<ℤ◌, List, ◌∷◌, [], ◌++◌, drop, length}
+use Rattle.std.specs.Prelude.{◌≡◌, ℤ, ◌+◌, ◌≤◌, ◌<ℤ◌, List, ◌∷◌, [], ◌++◌, length}
 use Rattle.std.specs.List.{AllByRecursion}
 use Rattle.point_model.specs.Rows.{Row}
 use Rattle.point_cache.specs.Cached.{AreAscending, later, latest}

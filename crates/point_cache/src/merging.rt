@@ -149,13 +149,7 @@ fn count_at(points: &[(Time, Value)], time: Time) -> usize
     ensures later { AllByRecursion (λ row. time <ℤ row.0) (drop result points.now) }
 {
     match points.first() {
-        Some(first) => {
-            if first.0 == time {
-                1
-            } else {
-                0
-            }
-        }
+        Some(first) => { if first.0 == time { 1 } else { 0 } }
         None => 0,
     }
 }

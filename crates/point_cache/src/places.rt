@@ -186,11 +186,7 @@ fn settle_at(
     }
 }
 
-fn settle_run(
-    run: &mut Run,
-    scratch: &mut Scratch,
-    total: &mut u64,
-) -> Result<(), AllocError>
+fn settle_run(run: &mut Run, scratch: &mut Scratch, total: &mut u64) -> Result<(), AllocError>
     requires { length run.old.next ≤ total.old }
     ensures settled { SettlesRun run.old run.new }
     ensures counted { total.new + length run.old.next ≡ total.old + length run.new.next }

@@ -1,4 +1,4 @@
-use Rattle.std.proofs.Common.{◌≡◌, ◌≤ℤ◌, ◌<ℤ◌, sym, ◌∙◌}
+use Rattle.std.proofs.Common.{sym, ◌∙◌}
 use Rattle.point_cache.proofs.MergeLemmas.{later_first, later_next}
 use Rattle.point_cache.proofs.merging.count_at.Goals as goal
 

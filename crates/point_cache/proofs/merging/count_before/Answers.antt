@@ -1,5 +1,4 @@
-use Rattle.std.proofs.Common.{◌≡◌, ◌≤ℤ◌, true, arith, sym, ◌∙◌}
-use Rattle.std.specs.Int.Signed.{le_z}
+use Rattle.std.proofs.Common.{◌≤ℤ◌, arith}
 use Rattle.std.proofs.lemmas.Int.{ints}
 use Rattle.point_cache.proofs.MergeLemmas.{from_time}
 use Rattle.point_cache.proofs.merging.count_before.Goals as goal

@@ -1,4 +1,4 @@
-use Rattle.std.proofs.Common.{◌≡◌, ℤ, List, length, sym, ap, ◌∙◌}
+use Rattle.std.proofs.Common.{List, length, ap, ◌∙◌}
 use Rattle.point_model.specs.Rows.{Row}
 use Rattle.point_cache.specs.Sorted.{first_at}
 use Rattle.point_cache.proofs.MergeLemmas.{ordered_firsts}

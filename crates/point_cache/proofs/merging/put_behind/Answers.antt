@@ -1,6 +1,4 @@
-use Rattle.std.proofs.Common.{◌≡◌, ◌<ℤ◌, List, take, drop, refl, sym, ap, ◌∙◌, subst}
-use Rattle.std.specs.List.{AllByRecursion}
-use Rattle.point_model.specs.Rows.{Row}
+use Rattle.std.proofs.Common.{refl, sym, subst}
 use Rattle.point_cache.specs.Cached.{AreAscending}
 use Rattle.point_cache.proofs.MergeLemmas.{ascending-drop, puts_behind}
 use Rattle.point_cache.proofs.merging.put_behind.Goals as goal

@@ -1,8 +1,6 @@
-use Rattle.std.proofs.Common.{◌≡◌, ◌≤◌, List, ◌++◌, length, take, drop, refl, sym, ap, ◌∙◌, subst, arith}
-use Rattle.std.proofs.lemmas.List.{length-take-le}
+use Rattle.std.proofs.Common.{◌≡◌, List, ◌++◌, take, drop, refl, sym, ap, ◌∙◌, subst, arith}
 use Rattle.point_model.specs.Rows.{Row}
-use Rattle.point_cache.specs.Cached.{AreAscending, latest}
-use Rattle.point_cache.specs.Merged.{IsUnion}
+use Rattle.point_cache.specs.Cached.{AreAscending}
 use Rattle.point_cache.specs.Staged.{Staged}
 use Rattle.point_cache.proofs.OrderLemmas.{ascending-cut}
 use Rattle.point_cache.proofs.SettleLemmas.{settled_union, union_same, union_short}
