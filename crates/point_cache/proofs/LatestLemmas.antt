@@ -66,10 +66,6 @@ first_at-reverse [] t = refl
 first_at-reverse (x ∷ xs) t =
     ap (λ (l : List Row). first_at l t) (reverse-append (x ∷ []) xs) ∙ first_at-append (reverse xs) (x ∷ []) t ∙ ap (later (value_of x t)) (first_at-reverse xs t)
 
-pub all-reverse : {X : Type 0} (P : X → Type 0) (xs : List X) → AllByRecursion P xs → AllByRecursion P (reverse xs)
-all-reverse P [] a = tt
-all-reverse P (x ∷ xs) a = subst (AllByRecursion P) (sym (reverse-append (x ∷ []) xs)) (all-append P (reverse xs) (x ∷ []) (all-reverse P xs a.1) (a.0, tt))
-
 -- ---- sorted lists
 
 tie : (a b : Bool) → (not (is_lt (cond a Less (cond b Greater Equal))) && not (is_lt (cond b Less (cond a Greater Equal)))) ≡ is_eq (cond a Less (cond b Greater Equal))

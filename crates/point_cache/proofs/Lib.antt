@@ -2,6 +2,7 @@ pub mod CacheLemmas
 pub mod EntryLemmas
 pub mod FreezeLemmas
 pub mod LatestLemmas
+pub mod MergeLemmas
 pub mod OrderLemmas
 pub mod PlainLemmas
 pub mod ResultLemmas

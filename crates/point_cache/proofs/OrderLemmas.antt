@@ -183,9 +183,6 @@ range_empty from to xs i j h a d =
 pub take_item : {X : Type 0} (xs : List X) (i : ℕ) (x : X) → i < length xs → x ≡ get_or xs i x → take (i + 1) xs ≡ take i xs ++ x ∷ []
 take_item xs i x h e = take_more xs i x h ∙ ap (λ y. take i xs ++ y ∷ []) (sym e)
 
-pub no_later : (first next : ℤ) (xs : List Row) (x : Row) → next ≤ℤ first → next ≤ℤ x.0 → AllByRecursion (λ r. first ≤ℤ r.0) xs → AllByRecursion (λ r. next ≤ℤ r.0) (xs ++ x ∷ [])
-no_later first next xs x a b all = all-append (λ r. next ≤ℤ r.0) xs (x ∷ []) (all-weaker (λ r. first ≤ℤ r.0) (λ r. next ≤ℤ r.0) (λ r low. omega (arith, ints)) xs all) (b, tt)
-
 -- a list that doesn't fall, from a place on
 pub rising_at : (xs : List Row) (i : ℕ) (x : Row) → i < length xs → x ≡ get_or xs i x → AreRising xs → AllByRecursion (λ r. x.0 ≤ℤ r.0) (drop (suc i) xs)
 rising_at [] i x h e a = absurd (omega arith)

@@ -5,6 +5,7 @@
 mod cache;
 mod freezing;
 mod key_points;
+mod merging;
 mod places;
 mod rows;
 mod run;

@@ -10,6 +10,7 @@ ghost use Rattle.point_cache.specs.Cached.{AreAscending};
 ghost use Rattle.point_cache.specs.Staged.{Among, Entry, AreCovered, AreSettled, IsStaging, entries_of, lives, nexts, plain};
 ghost use Rattle.point_cache.specs.Steps.{AddsKey, HasKey, GoesOn, FindsKey, ChangesAt, commit_of, discard_of, Settles, SettlesAt, SettlesRun, StagesAt};
 
+use crate::merging::Scratch;
 use crate::run::{Run, RunMap};
 use std::alloc::{AllocError, Global};
 use tsdb_types::{Cell, Name, Point, SeriesKey, Time, Value};
@@ -154,7 +155,7 @@ fn is_same_key(one: &Cell, other: &Cell) -> bool
 pub(crate) fn settle_all(
     map: &mut RunMap,
     touched: &[usize],
-    scratch: &mut Vec<(Time, Value)>,
+    scratch: &mut Scratch,
     total: &mut u64,
 ) -> Result<(), AllocError>
     requires { IsStaging (entries_of map.old.entries) touched.now (sum_by (λ entry. length entry.1.live) (entries_of map.old.entries)) total.old }
@@ -171,7 +172,7 @@ pub(crate) fn settle_all(
 fn settle_at(
     map: &mut RunMap,
     place: usize,
-    scratch: &mut Vec<(Time, Value)>,
+    scratch: &mut Scratch,
     total: &mut u64,
 ) -> Result<(), AllocError>
     requires { total.old ≡ sum_by (λ entry. length entry.1.next) (entries_of map.old.entries) }
@@ -185,11 +186,7 @@ fn settle_at(
     }
 }
 
-fn settle_run(
-    run: &mut Run,
-    scratch: &mut Vec<(Time, Value)>,
-    total: &mut u64,
-) -> Result<(), AllocError>
+fn settle_run(run: &mut Run, scratch: &mut Scratch, total: &mut u64) -> Result<(), AllocError>
     requires { length run.old.next ≤ total.old }
     ensures settled { SettlesRun run.old run.new }
     ensures counted { total.new + length run.old.next ≡ total.old + length run.new.next }

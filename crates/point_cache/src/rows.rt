@@ -60,27 +60,6 @@ fn is_behind(last: Option<Time>, time: Time) -> bool
     }
 }
 
-// The least time.
-pub(crate) fn earliest(points: &[(Time, Value)]) -> Option<Time>
-    ensures some { IfSome result (λ first. AllByRecursion (λ row. first ≤ℤ row.0) points.now) }
-    ensures none { IfNone result (points.now ≡ []) }
-{
-    let mut first = match points.first() {
-        Some(point) => point.0,
-        None => return None,
-    };
-    for point in points {
-        first = earlier(first, point.0);
-    }
-    Some(first)
-}
-
-fn earlier(one: Time, other: Time) -> Time
-    ensures { (result ≤ℤ one) × (result ≤ℤ other) }
-{
-    if one < other { one } else { other }
-}
-
 // How many points are before the time.
 pub(crate) fn before(points: &[(Time, Value)], time: Time) -> usize
     requires { AreAscending points.now }
@@ -132,20 +111,17 @@ pub(crate) fn copy_within(
     Vec::from_slice(alloc, &points[first..end])
 }
 
-// The points of both lists, sorted by time, later ones before earlier ones with one time.
+// The points sorted by time, later ones before earlier ones with one time.
 pub(crate) fn gather(
     scratch: &mut Vec<(Time, Value)>,
-    front: &[(Time, Value)],
-    back: &[(Time, Value)],
+    points: &[(Time, Value)],
 ) -> Result<(), AllocError>
     ensures sorted { OnOk result (AreRising scratch.new.items) }
-    ensures len { OnOk result (length scratch.new.items ≡ length front.now + length back.now) }
-    ensures firsts { OnOk result ((time : ℤ) → first_at scratch.new.items time ≡ latest (front.now ++ back.now) time) }
-    ensures all { (time : ℤ) → AllByRecursion (λ row. time ≤ℤ row.0) front.now → AllByRecursion (λ row. time ≤ℤ row.0) back.now → OnOk result (AllByRecursion (λ row. time ≤ℤ row.0) scratch.new.items) }
+    ensures len { OnOk result (length scratch.new.items ≡ length points.now) }
+    ensures firsts { OnOk result ((time : ℤ) → first_at scratch.new.items time ≡ latest points.now time) }
 {
     scratch.clear();
-    scratch.extend_from_slice(front)?;
-    scratch.extend_from_slice(back)?;
+    scratch.extend_from_slice(points)?;
     turn_round(scratch);
     scratch.sort_by_key(|point| point.0)?;
     Ok(())

@@ -1,5 +1,6 @@
 // The points of one key, and behind them what a batch will make of them.
-use crate::rows::{append_firsts, before, cut_out, earliest, gather, is_in_order, parts, range};
+use crate::merging::{Scratch, overtake};
+use crate::rows::{cut_out, is_in_order, parts, range};
 use indexmap::IndexMap;
 use std::alloc::{AllocError, Global};
 use std::hash::RandomState;
@@ -77,8 +78,8 @@ impl Run {
         Ok(())
     }
 
-    // Brings what is staged, with the points that it overtakes, into the order of time, the later of two with one time alone.
-    pub(crate) fn settle(&mut self, scratch: &mut Vec<(Time, Value)>) -> Result<(), AllocError>
+    // Brings what is staged into the order of time, merged with the points that it overtakes, the later of two with one time alone.
+    pub(crate) fn settle(&mut self, scratch: &mut Scratch) -> Result<(), AllocError>
         ensures live { self.new.live ≡ self.old.live }
         ensures same { (time : ℤ) → latest self.new.next time ≡ latest self.old.next time }
         ensures shorter { length self.new.next ≤ length self.old.next }
@@ -89,14 +90,9 @@ impl Run {
         if is_in_order(kept, staged) {
             return Ok(());
         }
-        let Some(first) = earliest(staged) else {
-            return Ok(());
-        };
-        let place = before(kept, first);
-        let (_, overtaken) = kept.split_at(place);
-        gather(scratch, overtaken, staged)?;
+        let place = overtake(scratch, kept, staged)?;
         let end = self.points.len();
-        append_firsts(&mut self.points, scratch.as_slice())?;
+        self.points.extend_from_slice(scratch.merged.as_slice())?;
         cut_out(&mut self.points, self.live, end);
         self.cut = place;
         Ok(())

@@ -1,5 +1,6 @@
 // The runs of all keys.
 use crate::key_points::KeyRun;
+use crate::merging::Scratch;
 use crate::places::{
     commit_all, discard_all, follows, goes_on, place_of, put_at, settle_all, touch, write_key,
 };
@@ -23,7 +24,7 @@ pub(crate) struct Runs {
     points: u64,
     next_points: u64,
     key: Vec<u8>,
-    scratch: Vec<(Time, Value)>,
+    scratch: Scratch,
 }
 
 impl Model for Runs {
@@ -57,7 +58,7 @@ impl Runs {
             points: 0,
             next_points: 0,
             key: Vec::new(alloc),
-            scratch: Vec::new(alloc),
+            scratch: Scratch::new(alloc),
         }
     }
 
