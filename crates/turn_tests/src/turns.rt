@@ -3,10 +3,10 @@ ghost use Rattle.std.specs.Prelude.{◌≡◌, ◌+◌, ◌<◌, ◌≤◌, ◌+
 ghost use Rattle.history_turn.specs.Histories.{StartsWith, listed};
 ghost use Rattle.history_turn.specs.Owned.{without};
 
-use super::*;
+use history_turn::{Counted, News, Nothing, Pass, Turn};
 use std::alloc::{AllocError, Global};
 use std::sync::Wait;
-use std::test::*;
+use std::test::Fail;
 use std::thread;
 use std::thread::Threads;
 
@@ -306,26 +306,17 @@ fn figures(engine: Engine) -> (u64, u64, u64) {
     (engine.number, engine.total, engine.faults)
 }
 
+// Over a device that works, and over one that doesn't.
 #[test]
 fn two_threads_add(rt: HostRuntime) -> Result<(), Fail> {
-    match both(&rt, rt.alloc(), new_engine(true), 3, 4) {
-        Ok((engine, left, right)) => {
-            assert!(rt; left.is_some() && right.is_some());
-            assert_eq!(rt; figures(engine), (7, 7, 0));
+    for (works, left_behind) in [(true, (7, 7, 0)), (false, (5, 0, 2))] {
+        match both(&rt, rt.alloc(), new_engine(works), 3, 4) {
+            Ok((engine, left, right)) => {
+                assert_eq!(rt; (left.is_some(), right.is_some()), (works, works));
+                assert_eq!(rt; figures(engine), left_behind);
+            }
+            Err(_) => assert!(rt; false),
         }
-        Err(_) => assert!(rt; false),
-    }
-    Ok(())
-}
-
-#[test]
-fn two_threads_meet_faults(rt: HostRuntime) -> Result<(), Fail> {
-    match both(&rt, rt.alloc(), new_engine(false), 3, 4) {
-        Ok((engine, left, right)) => {
-            assert!(rt; left.is_none() && right.is_none());
-            assert_eq!(rt; figures(engine), (5, 0, 2));
-        }
-        Err(_) => assert!(rt; false),
     }
     Ok(())
 }

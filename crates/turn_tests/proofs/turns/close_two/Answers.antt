@@ -1,6 +1,6 @@
 use Rattle.std.proofs.Common.{◌≡◌, ◌+◌, length, ap, sym, ◌∙◌, length-append}
 use Rattle.history_turn.proofs.OwnedLemmas.{same_length, length-numbers_after}
-use Rattle.history_turn.proofs.tests.close_two.Goals as goal
+use Rattle.turn_tests.proofs.turns.close_two.Goals as goal
 
 pub returns : goal.returns
 returns c =

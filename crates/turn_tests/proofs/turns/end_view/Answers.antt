@@ -2,7 +2,7 @@ use Rattle.std.proofs.Common.{◌≡◌, ℕ, zero, suc, List, [], ◌∷◌, Op
 use Rattle.history_turn.specs.Histories.{listed}
 use Rattle.history_turn.specs.Owned.{IsAmong, SameChange, without}
 use Rattle.history_turn.proofs.OwnedLemmas.{among_contains, change_ended, passing}
-use Rattle.history_turn.proofs.tests.end_view.Goals as goal
+use Rattle.turn_tests.proofs.turns.end_view.Goals as goal
 
 is_out : (n : ℕ) (out : Option ℕ) → Contains (listed out) n → out ≡ Some n
 is_out n None at = absurd (omega (arith, at.1))
