@@ -14,6 +14,3 @@ pub use note::Note;
 pub use pass::{Held, Pass};
 pub use turn::Turn;
 pub use view::PassView;
-
-#[cfg(test)]
-mod tests;

@@ -2,6 +2,8 @@ ghost use Rattle.std.specs.Prelude.{◌≡◌, ◌<◌, ◌≤◌, [], ℕ, All,
 ghost use Rattle.std.specs.FinMap as map;
 ghost use Rattle.shard_disk.specs.Calls.Adopt.{Adopts, AdoptsNone, NeverBegan};
 ghost use Rattle.shard_disk.specs.Crash.{Follows, IsDurable, Same};
+ghost use Rattle.shard_disk.specs.Directory.{ChangesAt, MadeOrNot, Vanishes};
+ghost use Rattle.shard_disk.specs.HandedOut.{GivesUp};
 ghost use Rattle.shard_disk.specs.Health.{FaultHasCause, RefusalHasCause};
 ghost use Rattle.host_disk.specs.Doubt.{SpendsNumber};
 ghost use Rattle.host_disk.specs.Numbers.{IsBelow, IsNumbered};
@@ -30,8 +32,8 @@ pub struct HostDisk<F: Folder = HostFolder> {
     readers: BTreeMap<u32, u64>,
     logs: Logs<F::File>,
     faults: u64,
-    /// A sync failed, so bytes that the system holds may not be on the device though a later sync succeeds. From then
-    /// on no call promises durability.
+    /// A sync, an adoption or a removal failed, so what the system shows may not be what the device has, though a later
+    /// sync succeeds. From then on no call promises durability, and no file is removed.
     is_doubtful: bool,
 }
 
@@ -281,9 +283,18 @@ where
         self.next
     }
 
-    fn remove(&mut self, no: u32) -> Result<(), Fault> {
+    fn remove(&mut self, no: u32) -> Result<(), Fault>
+        // A disk in doubt refuses, and each refusal leaves it in doubt.
+        ensures doubt { IsTrue self.old.is_doubtful → IsErr result }
+        ensures doubtful { IsErr result → IsTrue self.new.is_doubtful }
+
+        ensures crash { Follows (ChangesAt no (MadeOrNot Vanishes)) untold untold }
+        ensures gone { GivesUp no (handed_out_of self.old.next self.old.readers) (handed_out_of self.new.next self.new.readers) }
+        ensures fault { FaultHasCause result (health_of self.old.faults) (health_of self.new.faults) }
+    {
         self.logs.forget(no);
-        if remove_durably(&mut self.folder, no).is_err() {
+        if self.is_doubtful || remove_durably(&mut self.folder, no).is_err() {
+            self.is_doubtful = true;
             self.faults = self.faults.saturating_add(1);
             return Err(Fault);
         }

@@ -190,6 +190,33 @@ fn a_failed_adoption_ends_all_promises(rt: HostRuntime) -> Result<(), Fail> {
     Ok(())
 }
 
+const KEPT: &str = "sync folder
+remove 0.tsd
+";
+
+// A removal fails, and then another file's and a sync, for which nothing is called; both files can be read.
+#[test]
+fn a_failed_removal_ends_all_promises(rt: HostRuntime) -> Result<(), Fail> {
+    let path = room(rt, "removal")?;
+    let mut disk = watched(rt, path.as_str(), "")?;
+    let written = write_both(&mut disk);
+    drop(disk);
+    let mut disk = watched(rt, path.as_str(), "remove 0.tsd")?;
+    let done = (
+        disk.remove(0).is_ok(),
+        disk.remove(1).is_ok(),
+        disk.sync(1).is_ok(),
+    );
+    let read = (three(&mut disk, 0), three(&mut disk, 1));
+    drop(disk);
+    assert_eq!(rt; written, Ok(()));
+    assert_eq!(rt; done, (false, false, false));
+    assert_eq!(rt; read, (Some(*b"xbc"), Some(*b"yef")));
+    assert_eq!(rt; calls(rt, path.as_str())?.as_str(), KEPT);
+    fs::remove_dir_all(&rt, path.as_str())?;
+    Ok(())
+}
+
 fn put_three(disk: &mut HostDisk) -> Result<(), Trouble> {
     put(disk, b"abc")?;
     put(disk, b"def")?;
