@@ -1,5 +1,5 @@
 -- What a store's answer is to a request.
-use Rattle.std.proofs.Common.{◌≡◌, ◌<◌, ◌+◌, ◌^◌, ◌&&◌, ◌==◌, ℕ, ℤ, Bool, true, false, not, nat_le, nat_lt, List, [], ◌∷◌, refl, sym, ap, ◌∙◌, subst, arith, inl, inr, Some, None, IsTrue, All, suc, Err, if◌then◌else◌}
+use Rattle.std.proofs.Common.{◌≡◌, ◌⊎◌, ◌<◌, ◌+◌, ◌^◌, ◌&&◌, ◌==◌, ℕ, ℤ, Bool, true, false, not, nat_le, nat_lt, List, [], ◌∷◌, refl, sym, ap, ◌∙◌, subst, arith, inl, inr, Some, None, IsTrue, All, suc, Err, if◌then◌else◌}
 use Rattle.std.proofs.lemmas.Bool.Decides.{nat_tests, eqb_tells}
 use Rattle.std.specs.List.{list_all}
 use Rattle.shard_disk.specs.Health.{Health, Ages}
@@ -27,7 +27,7 @@ use Rattle.session_model.specs.Readable.{IsReadable, Lacks}
 use Rattle.session_model.specs.declared.statement.Refusal.{Refusal}
 use Rattle.session_model.specs.Replies.{Reply, text, named, accepted}
 use Rattle.session_model.specs.Replies.Reply.{Accepted, Reached, NotReached, NotBuilt, Refused, TypeConflict, HistoryFull, OutOfMemory, DeviceFault, CacheFull, SeriesFull}
-use Rattle.session_model.specs.Machine.{Answer, Served, Serves as Is_machines, TriesEntry, serve_batch, serve_entry}
+use Rattle.session_model.specs.Machine.{Answer, Served, Serves as Is_machines, serve_batch, serve_entry}
 use Rattle.session_loop.specs.Steps.{Stored, Step, Serves, ServesRead, CouldTake, answer_to}
 use Rattle.session_loop.specs.Texts.{IsTextOf, reply_to, number_in, reply_to_deletion, number_of_refusal}
 use Rattle.session_loop.proofs.StepLemmas.{MakesNone, alike_makes_none, untried_makes_none, tried_makes_none, step_now, serves_or_memory, memory_step, keeps_still, ages_same, free_points, fits_told}
@@ -154,10 +154,10 @@ module _ (old new : Stored) (points : List Point) (bytes : List ℕ) (kept : Kee
   untried refuses answer = untried_makes_none made new.told.client answer old.told new.told refuses
 
   -- the batch may have been tried
-  tried : Refuses made ⊤ old.told new.told → (request : Request) (moment : ℤ) (reply : Reply) → Means request moment (statement.Write points)
+  tried : {may : Type 0} → Refuses made may old.told new.told → (request : Request) (moment : ℤ) (reply : Reply) → Means request moment (statement.Write points)
       → (reply ≡ DeviceFault) ⊎ (reply ≡ OutOfMemory) → MakesNone new.told.client (answer_to request moment reply None) old.told new.told
-  tried refuses request moment reply means refused =
-      tried_makes_none made ⊤ new.told.client (answer_to request moment reply None) old.told new.told
+  tried {may} refuses request moment reply means refused =
+      tried_makes_none made may new.told.client (answer_to request moment reply None) old.told new.told
       (record { asks = statement.Write points; means = means; asked = ap (λ (c : ℕ). Some (Write_entry c points)) kept.client; refused = refused }) refuses
 
   pub refused_serves : (why : WriteFault) → ServesRefused why
@@ -214,10 +214,10 @@ module _ (old new : Stored) (deletion : Deletion) (bytes : List ℕ) (kept : Kee
   removed = Delete_entry old.told.client deletion
 
   -- the deletion may have been tried
-  deletion_tried : Refuses removed ⊤ old.told new.told → (request : Request) (moment : ℤ) (reply : Reply) → Means request moment (statement.Delete deletion)
+  deletion_tried : {may : Type 0} → Refuses removed may old.told new.told → (request : Request) (moment : ℤ) (reply : Reply) → Means request moment (statement.Delete deletion)
       → (reply ≡ DeviceFault) ⊎ (reply ≡ OutOfMemory) → MakesNone new.told.client (answer_to request moment reply None) old.told new.told
-  deletion_tried refuses request moment reply means refused =
-      tried_makes_none removed ⊤ new.told.client (answer_to request moment reply None) old.told new.told
+  deletion_tried {may} refuses request moment reply means refused =
+      tried_makes_none removed may new.told.client (answer_to request moment reply None) old.told new.told
       (record { asks = statement.Delete deletion; means = means; asked = ap (λ (c : ℕ). Some (Delete_entry c deletion)) kept.client; refused = refused }) refuses
 
   pub deletion_refused_serves : (why : DeleteFault) → Refuses removed (MayBeTriedDelete why) old.told new.told → bytes ≡ text (reply_to_deletion why) → DeleteHasCause new.told old.health new.health why
