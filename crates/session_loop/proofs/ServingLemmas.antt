@@ -1,5 +1,5 @@
 -- What a store's answer is to a request.
-use Rattle.std.proofs.Common.{◌≡◌, ◌<◌, ◌+◌, ◌^◌, ◌&&◌, ◌==◌, ℕ, ℤ, Bool, true, false, not, nat_le, nat_lt, List, [], ◌∷◌, refl, sym, ap, ◌∙◌, subst, arith, inl, inr, Some, None, IsTrue, All, suc, Err, if◌then◌else◌}
+use Rattle.std.proofs.Common.{◌≡◌, ◌⊎◌, ◌<◌, ◌+◌, ◌^◌, ◌&&◌, ◌==◌, ℕ, ℤ, Bool, true, false, not, nat_le, nat_lt, List, [], ◌∷◌, refl, sym, ap, ◌∙◌, subst, arith, inl, inr, Some, None, IsTrue, All, suc, Err, if◌then◌else◌}
 use Rattle.std.proofs.lemmas.Bool.Decides.{nat_tests, eqb_tells}
 use Rattle.std.specs.List.{list_all}
 use Rattle.shard_disk.specs.Health.{Health, Ages}
@@ -12,9 +12,9 @@ use Rattle.point_model.specs.Histories.{State}
 use Rattle.point_model.specs.declared.entry.Entry.{Entry}
 use Rattle.point_model.specs.declared.entry.Entry.TheVariants.{Write as Write_entry, Delete as Delete_entry}
 use Rattle.point_model.specs.Acceptance.{Conflict, conflict}
-use Rattle.store_trait.specs.Told.{Told, Keeps, IsAlike, state_now}
-use Rattle.store_trait.specs.Calls.Write.{WriteHasCause, Conflicts, IsOpen}
-use Rattle.store_trait.specs.Calls.Delete.{DeleteHasCause}
+use Rattle.store_trait.specs.Told.{Told, Keeps, IsAlike, Refuses, state_now}
+use Rattle.store_trait.specs.Calls.Write.{WriteHasCause, Conflicts, IsOpen, MayBeTried as MayBeTriedWrite}
+use Rattle.store_trait.specs.Calls.Delete.{DeleteHasCause, MayBeTried as MayBeTriedDelete}
 use Rattle.store_trait.specs.declared.fault.DeleteFault.{DeleteFault}
 use Rattle.store_trait.specs.declared.fault.DeleteFault.TheVariants as delete_fault
 use Rattle.point_model.specs.declared.deletion.Deletion.{Deletion}
@@ -27,10 +27,10 @@ use Rattle.session_model.specs.Readable.{IsReadable, Lacks}
 use Rattle.session_model.specs.declared.statement.Refusal.{Refusal}
 use Rattle.session_model.specs.Replies.{Reply, text, named, accepted}
 use Rattle.session_model.specs.Replies.Reply.{Accepted, Reached, NotReached, NotBuilt, Refused, TypeConflict, HistoryFull, OutOfMemory, DeviceFault, CacheFull, SeriesFull}
-use Rattle.session_model.specs.Machine.{Served, Serves as Is_machines, serve_batch, serve_entry}
+use Rattle.session_model.specs.Machine.{Answer, Served, Serves as Is_machines, serve_batch, serve_entry}
 use Rattle.session_loop.specs.Steps.{Stored, Step, Serves, ServesRead, CouldTake, answer_to}
 use Rattle.session_loop.specs.Texts.{IsTextOf, reply_to, number_in, reply_to_deletion, number_of_refusal}
-use Rattle.session_loop.proofs.StepLemmas.{step_now, serves_or_memory, memory_step, keeps_still, ages_same, free_points, fits_told}
+use Rattle.session_loop.proofs.StepLemmas.{MakesNone, alike_makes_none, untried_makes_none, tried_makes_none, step_now, serves_or_memory, memory_step, keeps_still, ages_same, free_points, fits_told}
 
 -- AFTER.
 
@@ -55,7 +55,7 @@ pub after_step : (old new : Stored) (wanted number : ℕ) → number ≡ (state_
     → Step old (answer_to request moment (if nat_le wanted number then Reached number else NotReached number) (Some number)) new
 after_step old new wanted number is small kept alike still request moment means =
     let reply : Reply = if nat_le wanted number then Reached number else NotReached number in
-    step_now old new (answer_to request moment reply (Some number)) kept alike (ages_same old.health new.health still) (accepted_at (nat_le wanted number) number) (readable_at (nat_le wanted number) number small)
+    step_now old new (answer_to request moment reply (Some number)) kept (alike_makes_none new.told.client (answer_to request moment reply (Some number)) old.told new.told alike) (ages_same old.health new.health still) (accepted_at (nat_le wanted number) number) (readable_at (nat_le wanted number) number small)
     (λ same. absurd (no_fault_at (nat_le wanted number) number same)) (λ other. still)
     (inr (record {
       asks = statement.After wanted;
@@ -140,39 +140,54 @@ full_given told points request moment means free is =
 could_take : (told : Told) (points : List Point) → IsOpen points told → CouldTake told.tells (state_now told) points
 could_take told points open_to = record { accepted = open_to.accepted; number = open_to.number }
 
-module _ (old new : Stored) (points : List Point) (bytes : List ℕ) (kept : Keeps old.told new.told) (alike : IsAlike old.told new.told) (ages : Ages old.health new.health) where
-  abbrev Refuses : WriteFault → Type 0
-  Refuses why = IsTextOf (reply_to why) bytes → IsReadable (reply_to why) → WriteHasCause points new.told old.health new.health why
+module _ (old new : Stored) (points : List Point) (bytes : List ℕ) (kept : Keeps old.told new.told) (ages : Ages old.health new.health) where
+  abbrev made : Entry
+  made = Write_entry old.told.client points
+
+  abbrev ServesRefused : WriteFault → Type 0
+  ServesRefused why = Refuses made (MayBeTriedWrite why) old.told new.told → IsTextOf (reply_to why) bytes → IsReadable (reply_to why)
+      → WriteHasCause points new.told old.health new.health why
       → ((why ≡ fault.Fault → ⊥) → new.health ≡ old.health) → Serves old (statement.Write points) bytes (number_in why) new
 
-  pub refused_serves : (why : WriteFault) → Refuses why
-  refused_serves (fault.TypeConflict field held number) spelled readable cause quiet =
+  -- the batch wasn't tried
+  untried : Refuses made ⊥ old.told new.told → (answer : Answer) → MakesNone new.told.client answer old.told new.told
+  untried refuses answer = untried_makes_none made new.told.client answer old.told new.told refuses
+
+  -- the batch may have been tried
+  tried : {may : Type 0} → Refuses made may old.told new.told → (request : Request) (moment : ℤ) (reply : Reply) → Means request moment (statement.Write points)
+      → (reply ≡ DeviceFault) ⊎ (reply ≡ OutOfMemory) → MakesNone new.told.client (answer_to request moment reply None) old.told new.told
+  tried {may} refuses request moment reply means refused =
+      tried_makes_none made may new.told.client (answer_to request moment reply None) old.told new.told
+      (record { asks = statement.Write points; means = means; asked = ap (λ (c : ℕ). Some (Write_entry c points)) kept.client; refused = refused }) refuses
+
+  pub refused_serves : (why : WriteFault) → ServesRefused why
+  refused_serves (fault.TypeConflict field held number) refuses spelled readable cause quiet =
       let still = quiet (λ same. cc same) in
-      serves_or_memory old new (statement.Write points) bytes (TypeConflict field held number) (Some number) spelled kept alike (λ long. still) (inr (ap Some cause.1)) (λ request moment means.
-      step_now old new (answer_to request moment (TypeConflict field held number) (Some number)) kept alike ages refl readable (λ same. absurd (no_conflict_fault field held number same))
+      serves_or_memory old new (statement.Write points) bytes (TypeConflict field held number) (Some number) spelled kept (λ long. untried refuses) (λ long. still) (inr (ap Some cause.1)) (λ request moment means.
+      step_now old new (answer_to request moment (TypeConflict field held number) (Some number)) kept (untried refuses (answer_to request moment (TypeConflict field held number) (Some number))) ages refl readable (λ same. absurd (no_conflict_fault field held number same))
       (λ other. still) (inr (conflict_given new.told points request moment field held number means cause.0 cause.1)))
-  refused_serves fault.HistoryFull spelled readable cause quiet =
+  refused_serves fault.HistoryFull refuses spelled readable cause quiet =
       let still = quiet (λ same. cc same) in
-      serves_or_memory old new (statement.Write points) bytes HistoryFull (Some 9223372036854775807) spelled kept alike (λ long. still) (inr (ap Some (sym cause.1))) (λ request moment means.
-      step_now old new (answer_to request moment HistoryFull (Some 9223372036854775807)) kept alike ages refl tt (λ same. absurd (no_full_fault same))
+      serves_or_memory old new (statement.Write points) bytes HistoryFull (Some 9223372036854775807) spelled kept (λ long. untried refuses) (λ long. still) (inr (ap Some (sym cause.1))) (λ request moment means.
+      step_now old new (answer_to request moment HistoryFull (Some 9223372036854775807)) kept (untried refuses (answer_to request moment HistoryFull (Some 9223372036854775807))) ages refl tt (λ same. absurd (no_full_fault same))
       (λ other. still) (inr (full_given new.told points request moment means cause.0 cause.1)))
-  refused_serves (fault.SeriesFull held) spelled readable cause quiet =
+  refused_serves (fault.SeriesFull held) refuses spelled readable cause quiet =
       let still = quiet (λ same. cc same) in
-      serves_or_memory old new (statement.Write points) bytes (SeriesFull held) None spelled kept alike (λ long. still) (inl refl) (λ request moment means.
-      step_now old new (answer_to request moment (SeriesFull held) None) kept alike ages refl readable (λ same. absurd (no_series_fault held same))
+      serves_or_memory old new (statement.Write points) bytes (SeriesFull held) None spelled kept (λ long. untried refuses) (λ long. still) (inl refl) (λ request moment means.
+      step_now old new (answer_to request moment (SeriesFull held) None) kept (untried refuses (answer_to request moment (SeriesFull held) None)) ages refl readable (λ same. absurd (no_series_fault held same))
       (λ other. still) (inl (record { aside = tt; cause = (points, means, could_take new.told points cause.0, cause.1); number = inl refl })))
-  refused_serves (fault.CacheFull held) spelled readable cause quiet =
+  refused_serves (fault.CacheFull held) refuses spelled readable cause quiet =
       let still = quiet (λ same. cc same) in
-      serves_or_memory old new (statement.Write points) bytes (CacheFull held) None spelled kept alike (λ long. still) (inl refl) (λ request moment means.
-      step_now old new (answer_to request moment (CacheFull held) None) kept alike ages refl readable (λ same. absurd (no_cache_fault held same))
+      serves_or_memory old new (statement.Write points) bytes (CacheFull held) None spelled kept (λ long. untried refuses) (λ long. still) (inl refl) (λ request moment means.
+      step_now old new (answer_to request moment (CacheFull held) None) kept (untried refuses (answer_to request moment (CacheFull held) None)) ages refl readable (λ same. absurd (no_cache_fault held same))
       (λ other. still) (inl (record { aside = tt; cause = (points, means, could_take new.told points cause.0, fits_told new.told points cause.1, cause.2); number = inl refl })))
-  refused_serves fault.Memory spelled readable cause quiet =
+  refused_serves fault.Memory refuses spelled readable cause quiet =
       let still = quiet (λ same. cc same) in
-      serves_or_memory old new (statement.Write points) bytes OutOfMemory None spelled kept alike (λ long. still) (inl refl)
-      (λ request moment means. memory_step old new request moment None kept alike still (inl refl))
-  refused_serves fault.Fault spelled readable cause quiet =
-      serves_or_memory old new (statement.Write points) bytes DeviceFault None spelled kept alike (λ long. absurd long) (inl refl) (λ request moment means.
-      step_now old new (answer_to request moment DeviceFault None) kept alike ages refl tt (λ same. cause.0.rose)
+      serves_or_memory old new (statement.Write points) bytes OutOfMemory None spelled kept (λ long. absurd long) (λ long. still) (inl refl)
+      (λ request moment means. memory_step old new request moment None kept (tried refuses request moment OutOfMemory means (inr refl)) still (inl refl))
+  refused_serves fault.Fault refuses spelled readable cause quiet =
+      serves_or_memory old new (statement.Write points) bytes DeviceFault None spelled kept (λ long. absurd long) (λ long. absurd long) (inl refl) (λ request moment means.
+      step_now old new (answer_to request moment DeviceFault None) kept (tried refuses request moment DeviceFault means (inl refl)) ages refl tt (λ same. cause.0.rose)
       (λ other. absurd (other refl))
       (inl (record { aside = tt; cause = (statement.Write points, means, (could_take new.told points cause.1, fits_told new.told points cause.2, cause.3)); number = inl refl })))
 
@@ -194,40 +209,54 @@ full_deletion_given told deletion request moment means is =
       entry_made = sym (ap (λ (s : Served). s.entry) served);
     }
 
-module _ (old new : Stored) (deletion : Deletion) (bytes : List ℕ) (kept : Keeps old.told new.told) (alike : IsAlike old.told new.told) (ages : Ages old.health new.health) where
-  pub deletion_refused_serves : (why : DeleteFault) → bytes ≡ text (reply_to_deletion why) → DeleteHasCause new.told old.health new.health why
+module _ (old new : Stored) (deletion : Deletion) (bytes : List ℕ) (kept : Keeps old.told new.told) (ages : Ages old.health new.health) where
+  abbrev removed : Entry
+  removed = Delete_entry old.told.client deletion
+
+  -- the deletion may have been tried
+  deletion_tried : {may : Type 0} → Refuses removed may old.told new.told → (request : Request) (moment : ℤ) (reply : Reply) → Means request moment (statement.Delete deletion)
+      → (reply ≡ DeviceFault) ⊎ (reply ≡ OutOfMemory) → MakesNone new.told.client (answer_to request moment reply None) old.told new.told
+  deletion_tried {may} refuses request moment reply means refused =
+      tried_makes_none removed may new.told.client (answer_to request moment reply None) old.told new.told
+      (record { asks = statement.Delete deletion; means = means; asked = ap (λ (c : ℕ). Some (Delete_entry c deletion)) kept.client; refused = refused }) refuses
+
+  pub deletion_refused_serves : (why : DeleteFault) → Refuses removed (MayBeTriedDelete why) old.told new.told → bytes ≡ text (reply_to_deletion why) → DeleteHasCause new.told old.health new.health why
       → ((why ≡ delete_fault.Fault → ⊥) → new.health ≡ old.health) → Serves old (statement.Delete deletion) bytes (number_of_refusal why) new
-  deletion_refused_serves delete_fault.HistoryFull spelled cause quiet = record {
+  deletion_refused_serves delete_fault.HistoryFull refuses spelled cause quiet = record {
     reply = HistoryFull;
     spelled = spelled;
     step = λ request moment means.
-        step_now old new (answer_to request moment HistoryFull (Some 9223372036854775807)) kept alike ages refl tt (λ same. absurd (no_full_fault same))
+        step_now old new (answer_to request moment HistoryFull (Some 9223372036854775807)) kept
+        (untried_makes_none removed new.told.client (answer_to request moment HistoryFull (Some 9223372036854775807)) old.told new.told refuses) ages refl tt (λ same. absurd (no_full_fault same))
         (λ other. quiet (λ same. cc same)) (inr (full_deletion_given new.told deletion request moment means cause));
   }
-  deletion_refused_serves delete_fault.Memory spelled cause quiet = record {
+  deletion_refused_serves delete_fault.Memory refuses spelled cause quiet = record {
     reply = OutOfMemory;
     spelled = spelled;
-    step = λ request moment means. memory_step old new request moment None kept alike (quiet (λ same. cc same)) (inl refl);
+    step = λ request moment means. memory_step old new request moment None kept (deletion_tried refuses request moment OutOfMemory means (inr refl)) (quiet (λ same. cc same)) (inl refl);
   }
-  deletion_refused_serves delete_fault.Fault spelled cause quiet = record {
+  deletion_refused_serves delete_fault.Fault refuses spelled cause quiet = record {
     reply = DeviceFault;
     spelled = spelled;
     step = λ request moment means.
-        step_now old new (answer_to request moment DeviceFault None) kept alike ages refl tt (λ same. cause.0.rose)
+        step_now old new (answer_to request moment DeviceFault None) kept (deletion_tried refuses request moment DeviceFault means (inl refl)) ages refl tt (λ same. cause.0.rose)
         (λ other. absurd (other refl)) (inl (record { aside = tt; cause = (statement.Delete deletion, means, cause.1); number = inl refl }));
   }
 
 -- A request that asks the store nothing.
 
 pub still_kept : (stored : Stored) → IsAlike stored.told stored.told
-still_kept stored = record { own = refl; out = refl }
+still_kept stored = record { own = refl; out = refl; tried = refl }
+
+makes_nothing : (stored : Stored) (answer : Answer) → MakesNone stored.told.client answer stored.told stored.told
+makes_nothing stored answer = alike_makes_none stored.told.client answer stored.told stored.told (still_kept stored)
 
 pub refusal_serves : (stored : Stored) (refusal : Refusal) (bytes : List ℕ) → bytes ≡ text (Refused refusal) → IsReadable (Refused refusal) → Serves stored (statement.Refused refusal) bytes None stored
 refusal_serves stored refusal bytes spelled readable = record {
   reply = Refused refusal;
   spelled = spelled;
   step = λ request moment means.
-      step_now stored stored (answer_to request moment (Refused refusal) None) (keeps_still stored.told) (still_kept stored) (ages_still stored.health) refl readable (λ same. absurd (no_refused_fault refusal same))
+      step_now stored stored (answer_to request moment (Refused refusal) None) (keeps_still stored.told) (makes_nothing stored (answer_to request moment (Refused refusal) None)) (ages_still stored.health) refl readable (λ same. absurd (no_refused_fault refusal same))
       (λ other. refl) (inr (record { asks = statement.Refused refusal; means = means; points = (state_now stored.told).points; are_told = λ tells. refl; reply = refl; number = refl; entry_made = refl }));
 }
   where
@@ -239,7 +268,7 @@ not_built_serves stored bytes spelled = record {
   reply = NotBuilt;
   spelled = spelled;
   step = λ request moment means.
-      step_now stored stored (answer_to request moment NotBuilt None) (keeps_still stored.told) (still_kept stored) (ages_still stored.health) refl tt (λ same. absurd (no_built_fault same))
+      step_now stored stored (answer_to request moment NotBuilt None) (keeps_still stored.told) (makes_nothing stored (answer_to request moment NotBuilt None)) (ages_still stored.health) refl tt (λ same. absurd (no_built_fault same))
       (λ other. refl) (inr (record { asks = statement.NotBuilt; means = means; points = (state_now stored.told).points; are_told = λ tells. refl; reply = refl; number = refl; entry_made = refl }));
 }
   where
@@ -249,4 +278,4 @@ not_built_serves stored bytes spelled = record {
 -- there was no memory to read a request
 pub unread_serves : (stored : Stored) (bytes : List ℕ) (error : AllocError) → bytes ≡ text OutOfMemory → ServesRead stored (Err error) bytes None stored
 unread_serves stored bytes error spelled =
-    (OutOfMemory, spelled, λ request moment. memory_step stored stored request moment None (keeps_still stored.told) (still_kept stored) refl (inl refl))
+    (OutOfMemory, spelled, λ request moment. memory_step stored stored request moment None (keeps_still stored.told) (makes_nothing stored (answer_to request moment OutOfMemory None)) refl (inl refl))

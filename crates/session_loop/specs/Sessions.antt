@@ -1,5 +1,5 @@
 -- What does a whole session owe its client?
-use Rattle.std.specs.Prelude.{◌≡◌, ◌≢◌, ℕ, ◌+◌, ◌≤◌, min, ℤ, Bool, true, false, List, [], ◌∷◌, ◌++◌, length, Option, IfSome, IsErrOf, Result, if◌then◌else◌}
+use Rattle.std.specs.Prelude.{◌≡◌, ◌≢◌, ◌⊎◌, ℕ, ◌+◌, ◌≤◌, min, ℤ, Bool, true, false, List, [], ◌∷◌, ◌++◌, length, Any, Contains, Option, IfSome, IsErrOf, Result, if◌then◌else◌}
 use Rattle.point_model.specs.declared.entry.Entry.{Entry}
 use Rattle.point_model.specs.Histories.{nothing}
 use Rattle.shard_disk.specs.Health.{Health, Ages, Failed, last_count}
@@ -10,7 +10,7 @@ use Rattle.session_io.specs.declared.report.End.{End}
 use Rattle.session_io.specs.declared.report.End.TheVariants.{Read, SourceFault, SinkFault}
 use Rattle.session_io.specs.Streams.{Grows, Shrinks}
 use Rattle.store_trait.specs.Told.{Keeps}
-use Rattle.session_model.specs.Machine.{Answer}
+use Rattle.session_model.specs.Machine.{Answer, TriesEntry}
 use Rattle.session_model.specs.Replies.{Reply}
 use Rattle.session_model.specs.Replies.Reply.{Accepted, Found, Reached, NotReached, NotBuilt, Refused, TypeConflict, HistoryFull, OutOfMemory, DeviceFault, Damaged, CacheFull, SeriesFull}
 use Rattle.session_model.specs.Explained.{Transcript, Dialogue, Records, IsTold, Explained, all_answers, own_numbers}
@@ -63,9 +63,14 @@ abbrev pub faults_in : List Answer → ℕ
 faults_in [] = 0
 faults_in (answer ∷ answers) = (if is_fault answer.reply then 1 else 0) + faults_in answers
 
+-- each entry that is told as tried was told so before, or one of these answers to the client tried it
+abbrev pub AddsTriedBy : ℕ → List Answer → List Entry → List Entry → Type 0
+AddsTriedBy client answers old new = (entry : Entry) → Contains new entry → Contains old entry ⊎ Any (TriesEntry client entry) answers
+
 -- What a session over a store did to it: the answers of a dialogue take their places in the history that the store told
--- before and since, the numbers that became the client's are those that it was told were accepted, no view is left, and
--- the store's count of faults rose by no less than the answers that tell a fault, and by nothing where none does.
+-- before and since, the numbers that became the client's are those that it was told were accepted, no view is left, the
+-- store's count of faults rose by no less than the answers that tell a fault, and by nothing where none does, and the
+-- entries that the store tells as tried since are some that the answers refused by a fault or for want of memory.
 pub record IsDialogue (old new : Stored) (transcript : Transcript) (dialogue : Dialogue) : Type 0 where
   pub kept : Keeps old.told new.told
   pub opening : ℕ
@@ -77,6 +82,7 @@ pub record IsDialogue (old new : Stored) (transcript : Transcript) (dialogue : D
   pub ages : Ages old.health new.health
   pub faults : min (old.health.faults + faults_in (all_answers dialogue)) last_count ≤ new.health.faults
   pub quiet : faults_in (all_answers dialogue) ≡ 0 → new.health ≡ old.health
+  pub tried : AddsTriedBy new.told.client (all_answers dialogue) old.told.tried new.told.tried
 
 -- What is told has grown by a transcript with this report, of a dialogue over the store. The bytes read are a front of
 -- what was left to read, and all of it where the session ended with the input.

@@ -1,5 +1,5 @@
 -- What does one answer of a session do with its store?
-use Rattle.std.specs.Prelude.{◌≡◌, ◌≢◌, ℕ, ◌+◌, ◌<◌, ◌≤◌, ℤ, Bool, IsTrue, false, List, [], ◌∷◌, ◌++◌, length, Option, IfSome, IsSome, IsSomeAnd, Result, Ok, Err}
+use Rattle.std.specs.Prelude.{◌≡◌, ◌≢◌, ◌⊎◌, ℕ, ◌+◌, ◌<◌, ◌≤◌, ℤ, Bool, IsTrue, false, List, [], ◌∷◌, ◌++◌, length, Contains, Option, IfSome, IsSome, IsSomeAnd, Result, Ok, Err}
 use Rattle.std.specs.declared.alloc.AllocError.{AllocError}
 use Rattle.tsdb_types.specs.declared.point.Point.{Point}
 use Rattle.shard_disk.specs.Health.{Health, Ages, Rose}
@@ -15,7 +15,7 @@ use Rattle.session_model.specs.Requests.{Means}
 use Rattle.session_model.specs.Replies.{Reply, text, accepted}
 use Rattle.session_model.specs.Replies.Reply.{Accepted, Found, Reached, NotReached, NotBuilt, Refused, TypeConflict, HistoryFull, OutOfMemory, DeviceFault, Damaged, CacheFull, SeriesFull}
 use Rattle.session_model.specs.Readable.{IsReadable}
-use Rattle.session_model.specs.Machine.{Answer}
+use Rattle.session_model.specs.Machine.{Answer, TriesEntry}
 use Rattle.session_model.specs.Explained.{IsGivenAt}
 
 -- what a store tells at a moment, and its health
@@ -81,6 +81,10 @@ module _ (tells : Bool) (limits : Option Limits) (series : ℕ) (start : State) 
 abbrev pub HasCauseAt : Told → List Entry → Answer → Type 0
 HasCauseAt told before answer = HasCause told.tells told.limits told.series told.start before answer
 
+-- each entry that is told as tried was told so before, or this answer to the client tried it
+abbrev pub AddsTried : ℕ → Answer → List Entry → List Entry → Type 0
+AddsTried client answer old new = (entry : Entry) → Contains new entry → Contains old entry ⊎ TriesEntry client entry answer
+
 -- the answer takes its place in the history behind what the store knew before
 pub record Step (old : Stored) (answer : Answer) (new : Stored) : Type 0 where
   pub kept : Keeps old.told new.told
@@ -94,6 +98,7 @@ pub record Step (old : Stored) (answer : Answer) (new : Stored) : Type 0 where
   pub ages : Ages old.health new.health
   pub fault : answer.reply ≡ DeviceFault → Rose old.health.faults new.health.faults
   pub quiet : answer.reply ≢ DeviceFault → new.health ≡ old.health
+  pub tried : AddsTried new.told.client answer old.told.tried new.told.tried
 
 -- these answers, one after another
 abbrev pub Steps : Stored → List Answer → Stored → Type 0

@@ -1,5 +1,5 @@
 -- When does one history explain what all clients were told?
-use Rattle.std.specs.Prelude.{◌≡◌, ℕ, ◌+◌, ◌-◌, ◌^◌, ◌<◌, ◌≤◌, ◌⊎◌, min, max, fold, ℤ, Bool, true, false, List, [], ◌∷◌, ◌++◌, length, take, map, All, Option, Some, None, IsSome, IfSome, IsPermutation, slice_get}
+use Rattle.std.specs.Prelude.{◌≡◌, ℕ, ◌+◌, ◌-◌, ◌^◌, ◌<◌, ◌≤◌, ◌⊎◌, min, max, fold, ℤ, Bool, true, false, List, [], ◌∷◌, ◌++◌, length, take, map, All, Any, Option, Some, None, IsSome, IfSome, IsPermutation, slice_get}
 use Rattle.std.specs.List.{flat_map}
 use Rattle.std.specs.Option.{option_to_list}
 use Rattle.session_io.specs.declared.report.Report.{Report}
@@ -8,7 +8,7 @@ use Rattle.session_io.specs.declared.report.End.TheVariants.{Read, SourceFault, 
 use Rattle.point_model.specs.declared.entry.Entry.{Entry}
 use Rattle.point_model.specs.Histories.{State, state_after}
 use Rattle.session_model.specs.Lines.{Request, requests, ended_requests}
-use Rattle.session_model.specs.Machine.{Answer, Serves, IsAside, IsOutOfMemory}
+use Rattle.session_model.specs.Machine.{Answer, Serves, IsAside, IsOutOfMemory, TriesEntry}
 use Rattle.session_model.specs.Replies.{text, accepted}
 use Rattle.session_model.specs.Readable.{IsReadable}
 
@@ -82,6 +82,11 @@ pub record Records (opening : ℕ) (transcript : Transcript) (dialogue : Dialogu
 -- the numbers of the entries that the client was told, or would have been told by the reply that was cut short
 abbrev pub own_numbers : Dialogue → List ℕ
 own_numbers dialogue = flat_map (λ answer. accepted answer.reply) (all_answers dialogue)
+
+-- one of the dialogues, whose clients are numbered from this one on, has an answer that tried the entry
+abbrev pub IsTriedIn : ℕ → List Dialogue → Entry → Type 0
+IsTriedIn client [] entry = ⊥
+IsTriedIn client (dialogue ∷ dialogues) entry = Any (TriesEntry client entry) (all_answers dialogue) ⊎ IsTriedIn (client + 1) dialogues entry
 
 -- the client was opened at this place of the history, and its answers take their places behind it
 pub record IsTold (tells : Bool) (HasCause : List Entry → Answer → Type 0) (start : State) (history : List Entry) (client : ℕ) (transcript : Transcript) (dialogue : Dialogue) (place : ℕ) : Type 0 where

@@ -49,6 +49,15 @@ serve points number client (statement.After wanted) =
 serve points number client (statement.Refused refusal) = record { reply = Refused refusal; entry = None }
 serve points number client statement.NotBuilt = record { reply = NotBuilt; entry = None }
 
+-- the entry that a client would have made who asks for this, if it would have made one
+abbrev pub entry_asked : ℕ → Statement → Option Entry
+entry_asked client (statement.Write batch) = Some (Write_entry client batch)
+entry_asked client (statement.Delete deletion) = Some (Delete_entry client deletion)
+entry_asked client (statement.Select field measurement) = None
+entry_asked client (statement.After wanted) = None
+entry_asked client (statement.Refused refusal) = None
+entry_asked client statement.NotBuilt = None
+
 -- a request, the moment that it took, the reply, and the number that the store told for it, if it told one
 pub record Answer : Type 0 where
   pub request : Request
@@ -92,6 +101,13 @@ pub record IsAside (HasCause : Answer → Type 0) (state : State) (answer : Answ
 -- the answer says that there was no memory for the request
 abbrev pub IsOutOfMemory : Answer → Type 0
 IsOutOfMemory answer = answer.reply ≡ OutOfMemory
+
+-- The answer refused this entry, which the client asked for, by a fault of a device or for want of memory.
+pub record TriesEntry (client : ℕ) (entry : Entry) (answer : Answer) : Type 0 where
+  pub asks : Statement
+  pub means : Means answer.request answer.moment asks
+  pub asked : entry_asked client asks ≡ Some entry
+  pub refused : (answer.reply ≡ DeviceFault) ⊎ (answer.reply ≡ OutOfMemory)
 
 -- the state behind an entry, if there is one
 abbrev pub with_entry : State → Option Entry → State

@@ -32,7 +32,7 @@ returns-in-Err-clause-served g c =
     let old : Stored = stored g.S.Store.told g.S.Store.health c.args.store.now in
     let new : Stored = stored g.S.Store.told g.S.Store.health c.delete.new.self in
     subst (λ (n : Option ℕ). Serves old (Delete c.args.deletion.now) c.not_deleted.new.text n new) (sym c.not_deleted.ensures.number)
-    (deletion_refused_serves old new c.args.deletion.now c.not_deleted.new.text c.delete.ensures.kept c.in-Err.ensures.err c.delete.ensures.ages c.in-Err.fault c.not_deleted.ensures.text
+    (deletion_refused_serves old new c.args.deletion.now c.not_deleted.new.text c.delete.ensures.kept c.delete.ensures.ages c.in-Err.fault c.in-Err.ensures.err c.not_deleted.ensures.text
     c.in-Err.ensures.refused (λ other. c.delete.ensures.quiet (quiet_err _ _ c.in-Err.is other)))
 
 pub returns-in-Ok-clause-none_out : goal.returns-in-Ok-clause-none_out

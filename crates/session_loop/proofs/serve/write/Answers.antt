@@ -32,7 +32,7 @@ returns-in-Err-clause-served g c =
     let old : Stored = stored g.S.Store.told g.S.Store.health c.args.store.now in
     let new : Stored = stored g.S.Store.told g.S.Store.health c.write.new.self in
     subst (λ (n : Option ℕ). Serves old (Write c.args.batch.now) c.refused.new.text n new) (sym c.refused.ensures.number)
-    (refused_serves old new c.args.batch.now c.refused.new.text c.write.ensures.kept c.in-Err.ensures.err c.write.ensures.ages c.in-Err.fault c.refused.ensures.text c.refused.ensures.readable
+    (refused_serves old new c.args.batch.now c.refused.new.text c.write.ensures.kept c.write.ensures.ages c.in-Err.fault c.in-Err.ensures.err c.refused.ensures.text c.refused.ensures.readable
     c.in-Err.ensures.refused (λ other. c.write.ensures.quiet (quiet_err _ _ c.in-Err.is other)))
 
 pub returns-in-Ok-clause-none_out : goal.returns-in-Ok-clause-none_out
