@@ -1,9 +1,11 @@
 -- A session over the store of one engine is explained by its history, and the closed disk has it.
-use Rattle.std.proofs.Common.{◌≡◌, ℕ, ◌+◌, ◌≤◌, min, Bool, true, List, [], ◌∷◌, ◌++◌, length, refl, sym, ap, ◌∙◌, subst, arith, Option, Some, None, IsPermutation}
+use Rattle.std.proofs.Common.{◌≡◌, ℕ, ◌+◌, ◌≤◌, min, Bool, true, List, [], ◌∷◌, ◌++◌, length, refl, sym, ap, ◌∙◌, subst, arith, Option, Some, None, IsPermutation, Contains, Any, ◌⊎◌, inl, inr, ⊎_elim}
 use Rattle.std.specs.Prelude.{IsTrue, OnErr, OnOk, Result}
 use Rattle.std.specs.declared.result.Result.TheVariants.{Ok, Err}
+use Rattle.std.specs.List.{AllByRecursion}
 use Rattle.std.specs.Option.{option_to_list}
 use Rattle.std.proofs.lemmas.List.{append-nil}
+use Rattle.std.proofs.lemmas.List.Elements.{Contains-append_left, Contains-append_right, Contains-push}
 use Rattle.std.proofs.lemmas.List.Sorted.{IsPermutation-refl}
 use Rattle.shard_disk.specs.Directory.{Directory}
 use Rattle.shard_disk.specs.Health.{HasCause as FaultHasCause, Health, last_count}
@@ -14,9 +16,9 @@ use Rattle.point_model.specs.declared.entry.Entry.{Entry}
 use Rattle.store_trait.specs.Told.{IsAlike, Keeps, Limits, OwnsAll, Told, numbers_from as store_numbers, state_now}
 use Rattle.engine_session.proofs.LookLemmas.{look_makes_none}
 use Rattle.session_io.specs.declared.report.Report.{Report}
-use Rattle.session_model.specs.Machine.{Answer}
+use Rattle.session_model.specs.Machine.{Answer, TriesEntry}
 use Rattle.session_model.specs.Replies.{accepted}
-use Rattle.session_model.specs.Explained.{Dialogue, ExplainedBut, IsTold, Records, TakePlaces, Transcript, all_answers, own_numbers, numbers_from}
+use Rattle.session_model.specs.Explained.{Dialogue, ExplainedBut, IsTold, IsTriedIn, Records, TakePlaces, Transcript, all_answers, own_numbers, numbers_from}
 use Rattle.session_loop.specs.Sessions.{IsDialogue, IsSession, Told as Client, faults_in}
 use Rattle.session_loop.specs.Steps.{HasCause, HasCauseAt, Stored}
 use Rattle.session_loop.proofs.StepLemmas.{given_in}
@@ -48,6 +50,15 @@ pub record BeginsWith (start : State) (limits : Limits) (old : Told) : Type 0 wh
   pub limited : old.limits ≡ Some limits
   pub history : old.history ≡ []
   pub own : old.own ≡ []
+  pub tried : old.tried ≡ []
+
+none_in : {entry : Entry} → Contains [] entry → ⊥
+none_in at = let below = at.1 in omega (arith, below)
+
+-- what holds of each member of a list holds of all
+pub each_in : (P : Entry → Type 0) (entries : List Entry) → ((entry : Entry) → Contains entries entry → P entry) → AllByRecursion P entries
+each_in P [] holds = tt
+each_in P (entry ∷ entries) holds = (holds entry (Contains-append_left (entry ∷ []) entries entry (Contains-push [] entry)), each_in P entries (λ other at. holds other (Contains-append_right (entry ∷ []) entries other at)))
 
 module _ (start : State) (limits : Limits) (held : ℕ) (old new : Stored) (transcript : Transcript) (dialogue : Dialogue) (begins : BeginsWith start limits old.told) (is : IsDialogue old new transcript dialogue)
     (few : new.told.series ≤ held) where
@@ -79,6 +90,13 @@ module _ (start : State) (limits : Limits) (held : ℕ) (old new : Stored) (tran
       sym (is.own ∙ ap (λ (l : List ℕ). l ++ own_numbers dialogue) begins.own) ∙ owns
       ∙ ap (λ (s : State). store_numbers (s.number + 1) new.told.history) (is.kept.start ∙ begins.begins) ∙ same_numbers (start.number + 1) new.told.history
 
+  -- what the store tells as tried, the client was refused
+  pub asked_for : AllByRecursion (IsTriedIn 0 (dialogue ∷ [])) new.told.tried
+  asked_for = each_in (IsTriedIn 0 (dialogue ∷ [])) new.told.tried (λ entry at. ⊎_elim
+      (λ before. absurd (none_in (subst (λ (l : List Entry). Contains l entry) begins.tried before)))
+      (λ asked. inl (subst (λ (n : ℕ). Any (TriesEntry n entry) (all_answers dialogue)) (is.kept.client ∙ begins.client) asked))
+      (is.tried entry at))
+
   abbrev explained : ExplainedBut true (HasCause true (Some limits) held start) start new.told.history (transcript ∷ [])
   explained = record {
     dialogues = dialogue ∷ [];
@@ -87,7 +105,7 @@ module _ (start : State) (limits : Limits) (held : ℕ) (old new : Stored) (tran
   }
 
 pub served_from : (start : State) (limits : Limits) (held : ℕ) (before now : Client) (old new : Stored) (report : Report) → BeginsWith start limits old.told → IsSession before now old new report
-    → new.told.series ≤ held → AreServed (record { before = before; now = now; report = report } ∷ []) start limits held new.told.history old.health new.health
+    → new.told.series ≤ held → AreServed (record { before = before; now = now; report = report } ∷ []) start limits held new.told.history new.told.tried old.health new.health
 served_from start limits held before now old new report begins session few =
     let same = append-nil (all_answers session.dialogue) in
     record {
@@ -108,11 +126,12 @@ served_from start limits held before now old new report begins session few =
       ages = session.is.ages;
       faults = subst (λ (l : List Answer). min (old.health.faults + faults_in l) last_count ≤ new.health.faults) (sym same) session.is.faults;
       quiet = λ none. session.is.quiet (ap (λ (l : List Answer). faults_in l) (sym same) ∙ none);
+      asked = asked_for start limits held old new session.transcript session.dialogue begins session.is few;
     }
 
 -- what a store over an engine tells at its start
-pub begins_with : {D : Type 0} (start : State) (first : List (List ℕ)) (shard : Shard D) (old : Told) → old ≡ told_of 0 start first [] shard → BeginsWith start (limits_of start first shard) old
-begins_with start first shard old is = subst (λ (t : Told). BeginsWith start (limits_of start first shard) t) (sym is) (record { begins = refl; client = refl; tells = refl; alone = refl; limited = refl; history = refl; own = refl })
+pub begins_with : {D : Type 0} (start : State) (first : List (List ℕ)) (shard : Shard D) (old : Told) → old ≡ told_of 0 start first [] [] shard → BeginsWith start (limits_of start first shard) old
+begins_with start first shard old is = subst (λ (t : Told). BeginsWith start (limits_of start first shard) t) (sym is) (record { begins = refl; client = refl; tells = refl; alone = refl; limited = refl; history = refl; own = refl; tried = refl })
 
 -- the store's entries are all its own, so its number counts them, and a look at it makes none
 module _ (start : State) (limits : Limits) (before now : Client) (old new : Stored) (report : Report) (begins : BeginsWith start limits old.told) (session : IsSession before now old new report) (last : Told) (kept : Keeps new.told last)
@@ -129,8 +148,8 @@ module _ (start : State) (limits : Limits) (before now : Client) (old new : Stor
 
 -- ---- what the disk was left with
 
-module _ {D R W : Type 0} (g : Ghosts D R W) (start : State) (since : ℕ) (history : List Entry) (shard : Shard D) (disk : D) (closed : Result (Unit {0}) Trouble) (closes : Closes g shard.logs disk closed) (told : IsTrue g.tells)
-    (ran : HasRun g start since history shard) where
+module _ {D R W : Type 0} (g : Ghosts D R W) (start : State) (since : ℕ) (history tried : List Entry) (shard : Shard D) (disk : D) (closed : Result (Unit {0}) Trouble) (closes : Closes g shard.logs disk closed) (told : IsTrue g.tells)
+    (ran : HasRun g start since history tried shard) where
   state_is : state_in ran.runs.logs.books ≡ state_after start history
   state_is = ran.runs.logs.is ∙ ap (λ (l : List Entry). state_after start l) ran.are
 
@@ -140,11 +159,12 @@ module _ {D R W : Type 0} (g : Ghosts D R W) (start : State) (since : ℕ) (hist
   kept : AreKept (g.crashes disk) start history ran.refused 0 ran.made
   kept = subst (λ (l : List Entry). AreKept (g.crashes disk) start l ran.refused 0 ran.made) ran.are (closes.ran told start since ran.made ran.refused ran.doubt ran.runs.logs).kept
 
-  lasts_ok : IsSoundThroughout g disk (state_in ran.runs.logs.books) → OnOk closed (IsSoundThroughout g disk (state_after start history)) → Lasts g disk since start history closed
+  lasts_ok : IsSoundThroughout g disk (state_in ran.runs.logs.books) → OnOk closed (IsSoundThroughout g disk (state_after start history)) → Lasts g disk since start history tried closed
   lasts_ok sound exactly = record {
     made = ran.made;
     are = ran.are;
     refused = ran.refused;
+    were_tried = ran.were_tried;
     doubt = None;
     asked = tt;
     each = each;
@@ -157,11 +177,12 @@ module _ {D R W : Type 0} (g : Ghosts D R W) (start : State) (since : ℕ) (hist
   abbrev Left : Type 0
   Left = IsSoundWithAtMost g disk (state_in ran.runs.logs.books) (option_to_list ran.doubt) × ((c : Directory) → (g.crashes disk).now c → StandsWithAtMost (state_in ran.runs.logs.books) (option_to_list ran.doubt) c)
 
-  lasts_err : Left → OnOk closed (IsSoundThroughout g disk (state_after start history)) → Lasts g disk since start history closed
+  lasts_err : Left → OnOk closed (IsSoundThroughout g disk (state_after start history)) → Lasts g disk since start history tried closed
   lasts_err left exactly = record {
     made = ran.made;
     are = ran.are;
     refused = ran.refused;
+    were_tried = ran.were_tried;
     doubt = ran.doubt;
     asked = ran.runs.logs.asked;
     each = each;
@@ -174,12 +195,12 @@ module _ {D R W : Type 0} (g : Ghosts D R W) (start : State) (since : ℕ) (hist
   abbrev Sound : Type 0
   Sound = IsSoundThroughout g disk (state_in ran.runs.logs.books)
 
-  lasts_either : (r : Result (Unit {0}) Trouble) → closed ≡ r → OnOk r Sound → OnErr r Left → Lasts g disk since start history closed
+  lasts_either : (r : Result (Unit {0}) Trouble) → closed ≡ r → OnOk r Sound → OnErr r Left → Lasts g disk since start history tried closed
   lasts_either (Ok x) is ok err =
       lasts_ok ok (subst (λ (r : Result (Unit {0}) Trouble). OnOk r (IsSoundThroughout g disk (state_after start history))) (sym is) (subst (λ (s : State). IsSoundThroughout g disk s) state_is ok))
   lasts_either (Err e) is ok err = lasts_err err (subst (λ (r : Result (Unit {0}) Trouble). OnOk r (IsSoundThroughout g disk (state_after start history))) (sym is) (record {}))
 
-  pub lasts : Lasts g disk since start history closed
+  pub lasts : Lasts g disk since start history tried closed
   lasts = lasts_either closed refl (on_ok_then closed (λ ok. ok told ran.runs.logs.books ran.doubt ran.runs.logs.holds) closes.ok)
       (on_err_then closed (λ err. err told ran.runs.logs.books ran.doubt ran.runs.logs.holds) closes.refused)
 
@@ -190,7 +211,7 @@ module _ {D R W : Type 0} (g : Ghosts D R W) (start : State) (since : ℕ) (hist
 -- ---- both
 
 module _ {D R W : Type 0} (g : Ghosts D R W) (before now : Client) (start : State) (first : List (List ℕ)) (engine : Shard D) (is : state_of engine ≡ start) (held_first : engine.logs.series.keys ≡ first) (old new : Stored)
-    (told : old.told ≡ told_of 0 start first [] engine) (health : old.health ≡ g.health engine.logs.disk) (ended : Ended D) (session : IsSession before now old new ended.report) (last : Told) (kept : Keeps new.told last) (alike : IsAlike new.told last) where
+    (told : old.told ≡ told_of 0 start first [] [] engine) (health : old.health ≡ g.health engine.logs.disk) (ended : Ended D) (session : IsSession before now old new ended.report) (last : Told) (kept : Keeps new.told last) (alike : IsAlike new.told last) where
   abbrev one : List ClientSession
   one = record { before = before; now = now; report = ended.report } ∷ []
 
@@ -198,22 +219,24 @@ module _ {D R W : Type 0} (g : Ghosts D R W) (before now : Client) (start : Stat
   begins = begins_with start first engine old.told told
 
   served : (held : ℕ) → new.told.series ≤ held
-      → AreServed one (state_of engine) (limits_of (state_of engine) engine.logs.series.keys engine) held new.told.history (g.health engine.logs.disk) new.health
+      → AreServed one (state_of engine) (limits_of (state_of engine) engine.logs.series.keys engine) held new.told.history new.told.tried (g.health engine.logs.disk) new.health
   served held few =
-      subst (λ (h : Health). AreServed one (state_of engine) (limits_of (state_of engine) engine.logs.series.keys engine) held new.told.history h new.health) health
-      (subst (λ (s : State). AreServed one s (limits_of s engine.logs.series.keys engine) held new.told.history old.health new.health) (sym is)
-      (subst (λ (l : List (List ℕ)). AreServed one start (limits_of start l engine) held new.told.history old.health new.health) (sym held_first)
+      subst (λ (h : Health). AreServed one (state_of engine) (limits_of (state_of engine) engine.logs.series.keys engine) held new.told.history new.told.tried h new.health) health
+      (subst (λ (s : State). AreServed one s (limits_of s engine.logs.series.keys engine) held new.told.history new.told.tried old.health new.health) (sym is)
+      (subst (λ (l : List (List ℕ)). AreServed one start (limits_of start l engine) held new.told.history new.told.tried old.health new.health) (sym held_first)
       (served_from start (limits_of start first engine) held before now old new ended.report begins session few)))
 
-  pub serves : ended.number ≡ (state_now last).number → (shard : Shard D) → (IsTrue g.tells → (since : ℕ) → HasRun g start since [] engine → HasRun g start since last.history shard)
+  pub serves : ended.number ≡ (state_now last).number → (shard : Shard D) → (IsTrue g.tells → (since : ℕ) → HasRun g start since [] [] engine → HasRun g start since last.history last.tried shard)
       → HoldsSeries first last.history shard.logs.series.keys → last.series ≡ length shard.logs.series.keys
       → Closes g shard.logs ended.disk ended.closed → new.health ≡ g.health shard.logs.disk → g.handed_out shard.logs.disk ≡ g.handed_out engine.logs.disk → Serves g one engine ended.disk ended.number ended.closed
   serves number shard ran holds_last counted_last closes left handed =
       let same = same_history start (limits_of start first engine) before now old new ended.report begins session last kept alike in
-      let was_run : IsTrue g.tells → (since : ℕ) → HasRun g (state_of engine) since [] engine → HasRun g start since new.told.history shard =
-      λ told since first_run. subst (λ (h : List Entry). HasRun g start since h shard) same (ran told since (subst (λ (s : State). HasRun g s since [] engine) is first_run)) in
+      let was_run : IsTrue g.tells → (since : ℕ) → HasRun g (state_of engine) since [] [] engine → HasRun g start since new.told.history new.told.tried shard =
+      λ told since first_run. subst (λ (h : List Entry). HasRun g start since h new.told.tried shard) same
+      (subst (λ (es : List Entry). HasRun g start since last.history es shard) alike.tried (ran told since (subst (λ (s : State). HasRun g s since [] [] engine) is first_run))) in
       record {
         history = new.told.history;
+        tried = new.told.tried;
         held = shard.logs.series.keys;
         holds = subst (λ (l : List (List ℕ)). HoldsSeries l new.told.history shard.logs.series.keys) (sym held_first)
             (subst (λ (h : List Entry). HoldsSeries first h shard.logs.series.keys) same holds_last);
@@ -221,9 +244,9 @@ module _ {D R W : Type 0} (g : Ghosts D R W) (before now : Client) (start : Stat
         served = served (length shard.logs.series.keys) (let more = kept.series in omega (arith, more, counted_last));
         counted = counts start (limits_of start first engine) before now old new ended.report begins session last kept alike ended.number number ∙ ap (λ (s : State). s.number + length new.told.history) (sym is);
         lasts = λ told since first_run.
-            subst (λ (s : State). Lasts g ended.disk since s new.told.history ended.closed) (sym is)
-            (lasts g start since new.told.history shard ended.disk ended.closed closes told (was_run told since first_run));
-        stored = λ told since first_run. stored g start since new.told.history shard ended.disk ended.closed closes told (was_run told since first_run);
+            subst (λ (s : State). Lasts g ended.disk since s new.told.history new.told.tried ended.closed) (sym is)
+            (lasts g start since new.told.history new.told.tried shard ended.disk ended.closed closes told (was_run told since first_run));
+        stored = λ told since first_run. stored g start since new.told.history new.told.tried shard ended.disk ended.closed closes told (was_run told since first_run);
         closing = subst (λ (h : Health). FaultHasCause ended.closed h (g.health ended.disk)) (sym left) closes.fault;
         handed_out = closes.handed_out ∙ handed;
       }
@@ -234,6 +257,7 @@ module _ {D R W : Type 0} (g : Ghosts D R W) (engine : Shard D) (disk : D) (numb
   pub serves_none : number ≡ (state_of engine).number → Closes g engine.logs disk closed → Serves g [] engine disk number closed
   serves_none is closes = record {
     history = [];
+    tried = [];
     held = engine.logs.series.keys;
     holds = holds_nothing engine.logs.series.keys;
     middle = g.health engine.logs.disk;
@@ -244,10 +268,11 @@ module _ {D R W : Type 0} (g : Ghosts D R W) (engine : Shard D) (disk : D) (numb
       ages = record { later = omega arith; steady = λ steady. refl };
       faults = omega arith;
       quiet = λ none. refl;
+      asked = tt;
     };
     counted = omega (arith, is);
-    lasts = λ told since run. lasts g (state_of engine) since [] engine disk closed closes told run;
-    stored = λ told since run. stored g (state_of engine) since [] engine disk closed closes told run;
+    lasts = λ told since run. lasts g (state_of engine) since [] [] engine disk closed closes told run;
+    stored = λ told since run. stored g (state_of engine) since [] [] engine disk closed closes told run;
     closing = closes.fault;
     handed_out = closes.handed_out;
   }

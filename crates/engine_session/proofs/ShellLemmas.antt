@@ -25,8 +25,8 @@ module _ {D R W : Type 0} (g : Ghosts D R W) (settings : Settings) (disk : D) (e
   limits_are = ap (λ (s : Settings). limits_with s (state_of engine) engine.logs.series.keys) are
 
   -- from the moment behind the opening on
-  ran : IsTrue g.tells → IsSoundAtOpening g disk (state_of engine) → HasRun g (state_of engine) (g.crashes engine.logs.disk).moment [] engine
-  ran told sound = record { made = []; are = refl; refused = []; doubt = None; runs = settled told (state_of engine) sound }
+  ran : IsTrue g.tells → IsSoundAtOpening g disk (state_of engine) → HasRun g (state_of engine) (g.crashes engine.logs.disk).moment [] [] engine
+  ran told sound = record { made = []; are = refl; refused = []; were_tried = tt; doubt = None; runs = settled told (state_of engine) sound }
 
   pub serves_directory : ServesDirectory g settings disk disk' sessions number closed
   serves_directory = record {
@@ -34,10 +34,11 @@ module _ {D R W : Type 0} (g : Ghosts D R W) (settings : Settings) (disk : D) (e
     series = engine.logs.series.keys;
     held = serves.held;
     history = serves.history;
+    tried = serves.tried;
     holds = serves.holds;
     middle = serves.middle;
-    served = subst (λ (l : Limits). AreServed sessions (state_of engine) l (length serves.held) serves.history (g.health disk) serves.middle) limits_are
-        (subst (λ (h : Health). AreServed sessions (state_of engine) (limits_of (state_of engine) engine.logs.series.keys engine) (length serves.held) serves.history h serves.middle) health serves.served);
+    served = subst (λ (l : Limits). AreServed sessions (state_of engine) l (length serves.held) serves.history serves.tried (g.health disk) serves.middle) limits_are
+        (subst (λ (h : Health). AreServed sessions (state_of engine) (limits_of (state_of engine) engine.logs.series.keys engine) (length serves.held) serves.history serves.tried h serves.middle) health serves.served);
     counted = serves.counted;
     stood = λ told. let a = answers told in a.stood;
     is = λ told state sound.
@@ -45,7 +46,7 @@ module _ {D R W : Type 0} (g : Ghosts D R W) (settings : Settings) (disk : D) (e
         let a = answers told in
         let same = one_state (g.files disk) (state_of engine) state engine.logs.series.keys stands.0 a.stood stands.1 in
         same.0;
-    lasts = λ told sound. serves.lasts told (g.crashes disk).moment (record { made = []; are = refl; refused = []; doubt = None; runs = begins told (state_of engine) sound });
+    lasts = λ told sound. serves.lasts told (g.crashes disk).moment (record { made = []; are = refl; refused = []; were_tried = tt; doubt = None; runs = begins told (state_of engine) sound });
     stored = λ told sound. serves.stored told (g.crashes engine.logs.disk).moment (ran told sound);
     closing = serves.closing;
     readers = ap (λ (h : HandedOut). h.readers) serves.handed_out ∙ kept.readers;

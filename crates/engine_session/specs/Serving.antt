@@ -1,6 +1,6 @@
 -- What does serving clients over one engine come to?
 use Rattle.std.specs.Prelude.{◌≡◌, ℕ, ◌+◌, ◌≤◌, min, Some, true, List, [], ◌∷◌, ◌++◌, length, IfSome, IsTrue, Result}
-use Rattle.std.specs.List.{flat_map}
+use Rattle.std.specs.List.{AllByRecursion, flat_map}
 use Rattle.shard_disk.specs.Health.{Ages, HasCause as FaultHasCause, Health, last_count}
 use Rattle.shard_disk.specs.declared.disk.Disk.{Ghosts}
 use Rattle.shard_disk.specs.declared.trouble.Trouble.{Trouble}
@@ -10,7 +10,7 @@ use Rattle.store_trait.specs.Told.{Limits}
 use Rattle.session_io.specs.declared.report.Report.{Report}
 use Rattle.session_io.specs.declared.report.End.TheVariants.{Read}
 use Rattle.session_io.specs.Streams.{Grows, Shrinks}
-use Rattle.session_model.specs.Explained.{ExplainedBut, Transcript, all_answers}
+use Rattle.session_model.specs.Explained.{ExplainedBut, IsTriedIn, Transcript, all_answers}
 use Rattle.session_loop.specs.Sessions.{Told, faults_in}
 use Rattle.session_loop.specs.Steps.{HasCause}
 use Rattle.shard_calls.specs.Holds.{HasRun, HoldsSeries}
@@ -46,27 +46,31 @@ AreTranscripts (session ∷ sessions) [] = ⊥
 
 -- One history explains the transcripts of all sessions together: each reply is the machine's from the start on, or has its cause in
 -- the engine's limits, a failed device or want of memory. The count of the device's faults rose by no less than the replies that tell
--- a fault, and by nothing where none does.
-pub record AreServed (sessions : List ClientSession) (start : State) (limits : Limits) (held : ℕ) (history : List Entry) (old new : Health) : Type 0 where
+-- a fault, and by nothing where none does. Each of the entries tried is one that a client asked for and was refused by a fault or for want
+-- of memory.
+pub record AreServed (sessions : List ClientSession) (start : State) (limits : Limits) (held : ℕ) (history tried : List Entry) (old new : Health) : Type 0 where
   pub transcripts : List Transcript
   pub are : AreTranscripts sessions transcripts
   pub explained : ExplainedBut true (HasCause true (Some limits) held start) start history transcripts
   pub ages : Ages old new
   pub faults : min (old.faults + faults_in (flat_map all_answers explained.dialogues)) last_count ≤ new.faults
   pub quiet : faults_in (flat_map all_answers explained.dialogues) ≡ 0 → new ≡ old
+  pub asked : AllByRecursion (IsTriedIn 0 explained.dialogues) tried
 
--- Clients were served over an engine, which was closed: one history explains what they were told, and is what the disk was left with.
+-- Clients were served over an engine, which was closed: one history explains what they were told, and is what the disk was left with. What
+-- a crash may leave besides is an entry that a client asked for and was refused by a fault or for want of memory.
 -- No reply tells of more series than the engine held at the end: those of its start, those that the entries write, and maybe some of
 -- batches that were refused. The series file that the closed directory names has exactly these, and maybe more behind them. The disk has
 -- handed out what it had: no reader is out more, so that it can be opened again.
 pub record Serves {D R W : Type 0} (g : Ghosts D R W) (sessions : List ClientSession) (engine : Shard D) (disk : D) (number : ℕ) (closed : Result (Unit {0}) Trouble) : Type 0 where
   pub history : List Entry
+  pub tried : List Entry
   pub held : List (List ℕ)
   pub holds : HoldsSeries engine.logs.series.keys history held
   pub middle : Health
-  pub served : AreServed sessions (state_of engine) (limits_of (state_of engine) engine.logs.series.keys engine) (length held) history (g.health engine.logs.disk) middle
+  pub served : AreServed sessions (state_of engine) (limits_of (state_of engine) engine.logs.series.keys engine) (length held) history tried (g.health engine.logs.disk) middle
   pub counted : number ≡ (state_of engine).number + length history
-  pub lasts : IsTrue g.tells → (since : ℕ) → HasRun g (state_of engine) since [] engine → Lasts g disk since (state_of engine) history closed
-  pub stored : IsTrue g.tells → (since : ℕ) → HasRun g (state_of engine) since [] engine → (more : List (List ℕ)) × NamesSeries (g.files disk) (held ++ more)
+  pub lasts : IsTrue g.tells → (since : ℕ) → HasRun g (state_of engine) since [] [] engine → Lasts g disk since (state_of engine) history tried closed
+  pub stored : IsTrue g.tells → (since : ℕ) → HasRun g (state_of engine) since [] [] engine → (more : List (List ℕ)) × NamesSeries (g.files disk) (held ++ more)
   pub closing : FaultHasCause closed middle (g.health disk)
   pub handed_out : g.handed_out disk ≡ g.handed_out engine.logs.disk

@@ -53,17 +53,18 @@ pub record ServesDirectory {D R W : Type 0} (g : Ghosts D R W) (settings : Setti
   pub series : List (List ℕ)
   pub held : List (List ℕ)
   pub history : List Entry
+  pub tried : List Entry
   pub holds : HoldsSeries series history held
   pub middle : Health
-  pub served : AreServed sessions start (limits_with settings start series) (length held) history (g.health disk) middle
+  pub served : AreServed sessions start (limits_with settings start series) (length held) history tried (g.health disk) middle
   pub counted : number ≡ start.number + length history
   pub stood : IsTrue g.tells → Stood (g.files disk) start series
   pub is : IsTrue g.tells → (state : State) → IsSoundAtOpening g disk state → start ≡ state
-  pub lasts : IsTrue g.tells → IsSoundThroughout g disk start → Lasts g disk' (g.crashes disk).moment start history closed
+  pub lasts : IsTrue g.tells → IsSoundThroughout g disk start → Lasts g disk' (g.crashes disk).moment start history tried closed
   pub stored : IsTrue g.tells → IsSoundAtOpening g disk start → (more : List (List ℕ)) × NamesSeries (g.files disk') (held ++ more)
   pub closing : FaultHasCause closed middle (g.health disk')
   pub readers : (g.handed_out disk').readers ≡ (g.handed_out disk).readers
-  pub settles : IsTrue g.tells → IsSoundAtOpening g disk start → (since : ℕ) × Lasts g disk' since start history closed
+  pub settles : IsTrue g.tells → IsSoundAtOpening g disk start → (since : ℕ) × Lasts g disk' since start history tried closed
 
 -- What a shell did with a directory and one client. Where the directory wasn't opened, no byte was read or written.
 abbrev pub Shells : {D R W : Type 0} → Ghosts D R W → Settings → Told → Told → D → D → ShellEnd → Type 0

@@ -71,8 +71,8 @@ fn serve_at<D: EngineDisk, B: Site, S: Source, K: Sink, C: Clock, G: Gate>(
     requires unlent { shard.views ≡ 0 }
     requires start { state_of shard ≡ B.start }
     requires series { shard.logs.series.keys ≡ B.series }
-    requires sound { (since : ℕ) → B.is_sound since → HasRun D.Disk B.start since [] shard }
-    requires is_sound { (since : ℕ) → HasRun D.Disk B.start since [] shard → B.is_sound since }
+    requires sound { (since : ℕ) → B.is_sound since → HasRun D.Disk B.start since [] [] shard }
+    requires is_sound { (since : ℕ) → HasRun D.Disk B.start since [] [] shard → B.is_sound since }
     requires handed_out { D.Disk.handed_out shard.logs.disk ≡ B.handed_out }
 
     ensures serves { Serves D.Disk (record {
