@@ -28,6 +28,7 @@ module _ {D R W S K C : Type 0} (g : Ghosts D R W) (members : Devices S K C) (st
     lasts = λ told since run. lasts g (state_of start) since together.history left disk closed closes told (together.ran told since run);
     stored = λ told since run. stored g (state_of start) since together.history left disk closed closes told (together.ran told since run);
     closing = closes.fault;
+    handed_out = closes.handed_out ∙ together.same;
   }
 
 -- ---- the clients that are handed back

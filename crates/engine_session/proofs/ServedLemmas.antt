@@ -24,7 +24,7 @@ use Rattle.session_loop.proofs.MemoryLemmas.{same_numbers}
 use Rattle.shard_state.specs.Books.{state_in}
 use Rattle.shard_state.specs.Calls.{Closes}
 use Rattle.shard_state.specs.History.{AreKept, StandsForPrefix}
-use Rattle.shard_state.specs.Meaning.{Stands, StandsWithAtMost}
+use Rattle.shard_state.specs.Meaning.{NamesSeries, Stands, StandsWithAtMost}
 use Rattle.shard_state.specs.Opening.{IsSoundAtOpening, IsSoundThroughout, IsSoundWithAtMost}
 use Rattle.gate_log.proofs.Results.{on_ok_then}
 use Rattle.shard_state.proofs.Entering.{on_err_then}
@@ -33,7 +33,7 @@ use Rattle.shard_calls.proofs.StoreLemmas.{holds_nothing}
 use Rattle.shard_calls.specs.Told.{limits_of, told_of}
 use Rattle.shard_steps.specs.Shards.{state_of}
 use Rattle.shard_steps.specs.declared.shard.Shard.{Shard}
-use Rattle.engine_session.specs.Durable.{HasSeriesFile, Lasts}
+use Rattle.engine_session.specs.Durable.{Lasts}
 use Rattle.engine_session.specs.Serving.{AreServed, ClientSession, Serves}
 use Rattle.engine_session.specs.declared.serving.Ended.{Ended}
 
@@ -184,8 +184,8 @@ module _ {D R W : Type 0} (g : Ghosts D R W) (start : State) (since : ℕ) (hist
       (on_err_then closed (λ err. err told ran.runs.logs.books ran.doubt ran.runs.logs.holds) closes.refused)
 
   -- the series file of the closed directory
-  pub stored : HasSeriesFile (g.files disk) shard.logs.series.keys
-  stored = (shard.logs.series.log.file, closes.series told ran.runs.logs.books ran.doubt ran.runs.logs.holds)
+  pub stored : (more : List (List ℕ)) × NamesSeries (g.files disk) (shard.logs.series.keys ++ more)
+  stored = closes.series told ran.runs.logs.books ran.doubt ran.runs.logs.holds
 
 -- ---- both
 
@@ -207,8 +207,8 @@ module _ {D R W : Type 0} (g : Ghosts D R W) (before now : Client) (start : Stat
 
   pub serves : ended.number ≡ (state_now last).number → (shard : Shard D) → (IsTrue g.tells → (since : ℕ) → HasRun g start since [] engine → HasRun g start since last.history shard)
       → HoldsSeries first last.history shard.logs.series.keys → last.series ≡ length shard.logs.series.keys
-      → Closes g shard.logs ended.disk ended.closed → new.health ≡ g.health shard.logs.disk → Serves g one engine ended.disk ended.number ended.closed
-  serves number shard ran holds_last counted_last closes left =
+      → Closes g shard.logs ended.disk ended.closed → new.health ≡ g.health shard.logs.disk → g.handed_out shard.logs.disk ≡ g.handed_out engine.logs.disk → Serves g one engine ended.disk ended.number ended.closed
+  serves number shard ran holds_last counted_last closes left handed =
       let same = same_history start (limits_of start first engine) before now old new ended.report begins session last kept alike in
       let was_run : IsTrue g.tells → (since : ℕ) → HasRun g (state_of engine) since [] engine → HasRun g start since new.told.history shard =
       λ told since first_run. subst (λ (h : List Entry). HasRun g start since h shard) same (ran told since (subst (λ (s : State). HasRun g s since [] engine) is first_run)) in
@@ -225,6 +225,7 @@ module _ {D R W : Type 0} (g : Ghosts D R W) (before now : Client) (start : Stat
             (lasts g start since new.told.history shard ended.disk ended.closed closes told (was_run told since first_run));
         stored = λ told since first_run. stored g start since new.told.history shard ended.disk ended.closed closes told (was_run told since first_run);
         closing = subst (λ (h : Health). FaultHasCause ended.closed h (g.health ended.disk)) (sym left) closes.fault;
+        handed_out = closes.handed_out ∙ handed;
       }
 
 -- ---- nobody
@@ -248,4 +249,5 @@ module _ {D R W : Type 0} (g : Ghosts D R W) (engine : Shard D) (disk : D) (numb
     lasts = λ told since run. lasts g (state_of engine) since [] engine disk closed closes told run;
     stored = λ told since run. stored g (state_of engine) since [] engine disk closed closes told run;
     closing = closes.fault;
+    handed_out = closes.handed_out;
   }

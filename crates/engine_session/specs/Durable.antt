@@ -2,19 +2,14 @@
 use Rattle.std.specs.Prelude.{◌≡◌, ℕ, List, Contains, Option, Result, OnOk}
 use Rattle.std.specs.List.{AllByRecursion}
 use Rattle.std.specs.Option.{option_to_list}
-use Rattle.shard_disk.specs.Directory.{Directory, HasFile}
+use Rattle.shard_disk.specs.Directory.{Directory}
 use Rattle.shard_disk.specs.declared.disk.Disk.{Ghosts}
 use Rattle.shard_disk.specs.declared.trouble.Trouble.{Trouble}
 use Rattle.point_model.specs.Histories.{State, state_after}
 use Rattle.point_model.specs.declared.entry.Entry.{Entry}
-use Rattle.shard_state.specs.Books.{IsSeriesFrom}
 use Rattle.shard_state.specs.History.{AreKept, Made, StandsForPrefix, entries_of}
 use Rattle.shard_state.specs.Meaning.{StandsWithAtMost}
 use Rattle.shard_state.specs.Opening.{IsSoundThroughout, IsSoundWithAtMost}
-
--- a file of the directory is a series file that begins with these series
-abbrev pub HasSeriesFile : Directory → List (List ℕ) → Type 0
-HasSeriesFile files series = (file : ℕ) × HasFile files file (IsSeriesFrom series)
 
 -- Each image of any moment since this one stands for a prefix of the entries with at most one entry more, which was refused, and has
 -- each entry from the entry's moment on, which is the end of the step that logged it. What a crash leaves now has all of them, with

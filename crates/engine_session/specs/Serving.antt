@@ -1,5 +1,5 @@
 -- What does serving clients over one engine come to?
-use Rattle.std.specs.Prelude.{◌≡◌, ℕ, ◌+◌, ◌≤◌, min, Some, true, List, [], ◌∷◌, length, IfSome, IsTrue, Result}
+use Rattle.std.specs.Prelude.{◌≡◌, ℕ, ◌+◌, ◌≤◌, min, Some, true, List, [], ◌∷◌, ◌++◌, length, IfSome, IsTrue, Result}
 use Rattle.std.specs.List.{flat_map}
 use Rattle.shard_disk.specs.Health.{Ages, HasCause as FaultHasCause, Health, last_count}
 use Rattle.shard_disk.specs.declared.disk.Disk.{Ghosts}
@@ -15,9 +15,10 @@ use Rattle.session_loop.specs.Sessions.{Told, faults_in}
 use Rattle.session_loop.specs.Steps.{HasCause}
 use Rattle.shard_calls.specs.Holds.{HasRun, HoldsSeries}
 use Rattle.shard_calls.specs.Told.{limits_of}
+use Rattle.shard_state.specs.Meaning.{NamesSeries}
 use Rattle.shard_steps.specs.Shards.{state_of}
 use Rattle.shard_steps.specs.declared.shard.Shard.{Shard}
-use Rattle.engine_session.specs.Durable.{HasSeriesFile, Lasts}
+use Rattle.engine_session.specs.Durable.{Lasts}
 
 -- a session of a client: what the client's devices told before and since, and its report
 pub record ClientSession : Type 0 where
@@ -56,7 +57,8 @@ pub record AreServed (sessions : List ClientSession) (start : State) (limits : L
 
 -- Clients were served over an engine, which was closed: one history explains what they were told, and is what the disk was left with.
 -- No reply tells of more series than the engine held at the end: those of its start, those that the entries write, and maybe some of
--- batches that were refused. The series file of the closed directory has them.
+-- batches that were refused. The series file that the closed directory names has exactly these, and maybe more behind them. The disk has
+-- handed out what it had: no reader is out more, so that it can be opened again.
 pub record Serves {D R W : Type 0} (g : Ghosts D R W) (sessions : List ClientSession) (engine : Shard D) (disk : D) (number : ℕ) (closed : Result (Unit {0}) Trouble) : Type 0 where
   pub history : List Entry
   pub held : List (List ℕ)
@@ -65,5 +67,6 @@ pub record Serves {D R W : Type 0} (g : Ghosts D R W) (sessions : List ClientSes
   pub served : AreServed sessions (state_of engine) (limits_of (state_of engine) engine.logs.series.keys engine) (length held) history (g.health engine.logs.disk) middle
   pub counted : number ≡ (state_of engine).number + length history
   pub lasts : IsTrue g.tells → (since : ℕ) → HasRun g (state_of engine) since [] engine → Lasts g disk since (state_of engine) history closed
-  pub stored : IsTrue g.tells → (since : ℕ) → HasRun g (state_of engine) since [] engine → HasSeriesFile (g.files disk) held
+  pub stored : IsTrue g.tells → (since : ℕ) → HasRun g (state_of engine) since [] engine → (more : List (List ℕ)) × NamesSeries (g.files disk) (held ++ more)
   pub closing : FaultHasCause closed middle (g.health disk)
+  pub handed_out : g.handed_out disk ≡ g.handed_out engine.logs.disk

@@ -1,5 +1,5 @@
 -- What does a shell owe its client and its disk?
-use Rattle.std.specs.Prelude.{◌≡◌, ◌≢◌, ℕ, ◌+◌, Bool, List, [], ◌∷◌, length, Result, IsTrue}
+use Rattle.std.specs.Prelude.{◌≡◌, ◌≢◌, ℕ, ◌+◌, Bool, List, [], ◌∷◌, ◌++◌, length, Result, IsTrue}
 use Rattle.shard_disk.specs.Health.{Ages, Failed, HasCause as FaultHasCause, Health}
 use Rattle.shard_disk.specs.declared.disk.Disk.{Ghosts}
 use Rattle.shard_disk.specs.declared.trouble.Trouble.{Trouble}
@@ -13,14 +13,14 @@ use Rattle.session_io.specs.declared.report.Report.{Report}
 use Rattle.session_loop.specs.Sessions.{Told}
 use Rattle.shard_disk.specs.Directory.{Directory}
 use Rattle.shard_state.specs.Crashes.{LeavesOnly}
-use Rattle.shard_state.specs.Meaning.{Stands}
+use Rattle.shard_state.specs.Meaning.{NamesSeries, Stands}
 use Rattle.shard_state.specs.Opening.{IsSoundAtOpening, IsSoundThroughout}
 use Rattle.shard_recover.specs.Damage.{IsFirstDamage}
 use Rattle.shard_recover.specs.Standing.{Stood}
 use Rattle.shard_steps.specs.declared.settings.Settings.{Settings}
 use Rattle.shard_opening.specs.Opening.{IsLeft, KeepsNamed}
 use Rattle.shard_calls.specs.Holds.{HoldsSeries}
-use Rattle.engine_session.specs.Durable.{HasSeriesFile, Lasts}
+use Rattle.engine_session.specs.Durable.{Lasts}
 use Rattle.engine_session.specs.Ends.{EndsBy}
 use Rattle.engine_session.specs.Serving.{AreServed, ClientSession}
 use Rattle.engine_session.specs.declared.directory.ShellEnd.{ShellEnd}
@@ -45,7 +45,9 @@ pub record OpensNone {D R W : Type 0} (g : Ghosts D R W) (disk disk' : D) (why :
 
 -- The directory was opened, clients were served over it, and it was closed. One history explains what all of them were told. It begins
 -- with the state and the series for which the files stood; and where the disk was sound it was left with the history, at every moment
--- since the opening began. No reply tells of more series than were held at the end, and the series file that was left has those.
+-- since the opening began, or, where a crash before it might have left another state, since a moment of the call. No reply tells of more
+-- series than were held at the end, and the series file that the directory names has exactly those, and maybe more behind them. No reader is
+-- out more than before, so that the disk can be opened again.
 pub record ServesDirectory {D R W : Type 0} (g : Ghosts D R W) (settings : Settings) (disk disk' : D) (sessions : List ClientSession) (number : ℕ) (closed : Result (Unit {0}) Trouble) : Type 0 where
   pub start : State
   pub series : List (List ℕ)
@@ -58,8 +60,10 @@ pub record ServesDirectory {D R W : Type 0} (g : Ghosts D R W) (settings : Setti
   pub stood : IsTrue g.tells → Stood (g.files disk) start series
   pub is : IsTrue g.tells → (state : State) → IsSoundAtOpening g disk state → start ≡ state
   pub lasts : IsTrue g.tells → IsSoundThroughout g disk start → Lasts g disk' (g.crashes disk).moment start history closed
-  pub stored : IsTrue g.tells → IsSoundThroughout g disk start → HasSeriesFile (g.files disk') held
+  pub stored : IsTrue g.tells → IsSoundAtOpening g disk start → (more : List (List ℕ)) × NamesSeries (g.files disk') (held ++ more)
   pub closing : FaultHasCause closed middle (g.health disk')
+  pub readers : (g.handed_out disk').readers ≡ (g.handed_out disk).readers
+  pub settles : IsTrue g.tells → IsSoundAtOpening g disk start → (since : ℕ) × Lasts g disk' since start history closed
 
 -- What a shell did with a directory and one client. Where the directory wasn't opened, no byte was read or written.
 abbrev pub Shells : {D R W : Type 0} → Ghosts D R W → Settings → Told → Told → D → D → ShellEnd → Type 0

@@ -73,6 +73,7 @@ fn serve_at<D: EngineDisk, B: Site, S: Source, K: Sink, C: Clock, G: Gate>(
     requires series { shard.logs.series.keys ≡ B.series }
     requires sound { (since : ℕ) → B.is_sound since → HasRun D.Disk B.start since [] shard }
     requires is_sound { (since : ℕ) → HasRun D.Disk B.start since [] shard → B.is_sound since }
+    requires handed_out { D.Disk.handed_out shard.logs.disk ≡ B.handed_out }
 
     ensures serves { Serves D.Disk (record {
       before = told S.given S.left S.ended K.written C.moments source.old sink.old clock.old;

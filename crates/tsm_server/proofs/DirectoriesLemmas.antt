@@ -61,7 +61,7 @@ module _ {D R W S K C : Type 0} (g : Ghosts D R W) (members : Devices S K C) (di
   serves_clients clients finished sessions are serves = record {
     sessions = sessions;
     are = are;
-    serves = serves_directory g engine.settings disk engine refl opened.health opened.answers opened.begins sessions left number closing serves;
+    serves = serves_directory g engine.settings disk engine refl opened.health opened.answers opened.begins opened.settled opened.kept sessions left number closing serves;
   }
 
   pub serves_one : (client finished : Client S K C) (report : Report) → EndsBy members.ended members.source_health members.sink_health client.source finished.source client.sink finished.sink report
