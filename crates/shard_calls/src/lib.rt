@@ -2,12 +2,11 @@
 #![tactic(auto)]
 
 mod alone;
-
 mod engine_disk;
 mod noting;
 mod site;
 
 pub use alone::Alone;
-pub use noting::{attempt, deletion_attempt};
 pub use engine_disk::EngineDisk;
+pub use noting::{attempt, deletion_attempt};
 pub use site::Site;

@@ -152,8 +152,7 @@ series_of series (Some bytes) had = (had.0.0, (had.0.1, had.1))
 -- an image names a series file that has the series of the books, and maybe more
 pub series_named : (books : Books) (files : Directory) (next : List Entry) → AreBooks books → IsImage books next files → (more : List (List ℕ)) × NamesSeries files (books.series ++ more)
 series_named books files next sound image =
-    let series = series_of books.series (get files books.series_file) image.series in
-    (
+    let series = series_of books.series (get files books.series_file) image.series in (
       series.0,
       record {
         named = books.named;

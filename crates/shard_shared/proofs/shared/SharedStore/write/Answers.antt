@@ -31,9 +31,11 @@ give-requires-clause-stands g c =
     let taken = c.take-held.ensures in
     let old = c.has_room.new.self in
     let start = c.args.self.now.pass.view.start in
-    rw (ap (λ (p : Pass g.row.D.Denot). p.view.start) taken.now, ap (λ (p : Pass g.row.D.Denot). p.view.seen) taken.now)
-    (none_more g.D.Disk start old.faults taken.entries old.shard (roomy_reaches g.D.Disk start taken.entries c.take-held.result c.value-engine.result.now old c.value-engine.ensures.value c.has_room.ensures.shard c.has_room.ensures.faults taken.stands_for), roomy_few g.D.Disk start taken.entries c.take-held.result c.value-engine.result.now old c.value-engine.ensures.value c.has_room.ensures.shard c.has_room.ensures.found taken.stands_for,
-      ran_still g.D.Disk start (tried_in (refusals_in old.found.items)) taken.entries old.shard (roomy_ran g.D.Disk start taken.entries c.take-held.result c.value-engine.result.now old c.value-engine.ensures.value c.has_room.ensures.shard c.has_room.ensures.found taken.stands_for))
+    rw (ap (λ (p : Pass g.row.D.Denot). p.view.start) taken.now, ap (λ (p : Pass g.row.D.Denot). p.view.seen) taken.now) (
+      none_more g.D.Disk start old.faults taken.entries old.shard (roomy_reaches g.D.Disk start taken.entries c.take-held.result c.value-engine.result.now old c.value-engine.ensures.value c.has_room.ensures.shard c.has_room.ensures.faults taken.stands_for),
+      roomy_few g.D.Disk start taken.entries c.take-held.result c.value-engine.result.now old c.value-engine.ensures.value c.has_room.ensures.shard c.has_room.ensures.found taken.stands_for,
+      ran_still g.D.Disk start (tried_in (refusals_in old.found.items)) taken.entries old.shard (roomy_ran g.D.Disk start taken.entries c.take-held.result c.value-engine.result.now old c.value-engine.ensures.value c.has_room.ensures.shard c.has_room.ensures.found taken.stands_for),
+    )
 
 pub give-requires-clause-loans : goal.give-requires-clause-loans
 give-requires-clause-loans g c =
