@@ -1,9 +1,6 @@
-use Rattle.std.proofs.Common.{ℕ, ◌<◌, length, List, get_or, sym, subst, arith, inl, refl}
+use Rattle.std.proofs.Common.{◌<◌, length, get_or, subst, arith, inl, refl}
 use Rattle.std.proofs.lemmas.Option.{slice_get-get_or}
-use Rattle.tsdb_types.specs.declared.point.Point.{Point}
-use Rattle.point_cache.specs.Staged.{Among}
-use Rattle.point_cache.specs.Steps.{AddsKey, FindsKey, HasKey, point_key}
-use Rattle.point_cache.proofs.EntryLemmas.{item_or}
+use Rattle.point_cache.specs.Steps.{HasKey}
 use Rattle.point_cache.proofs.runs.Runs.place_at.Goals as goal
 
 pub returns-then-goes_on-clause-found : goal.returns-then-goes_on-clause-found
