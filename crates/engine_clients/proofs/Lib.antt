@@ -4,4 +4,5 @@ pub mod EachLemmas
 pub mod PassLemmas
 pub mod SeatLemmas
 pub mod ServedLemmas
+pub mod TriedLemmas
 pub mod WholeLemmas

@@ -20,13 +20,14 @@ module _ {D R W S K C : Type 0} (g : Ghosts D R W) (members : Devices S K C) (st
   pub serves_closed : (disk : D) (number : ℕ) (closed : Result (Unit {0}) Trouble) → Closes g left.logs disk closed → number ≡ (state_of left).number → Serves g together.sessions start disk number closed
   serves_closed disk number closed closes is = record {
     history = together.history;
+    tried = together.tried;
     held = left.logs.series.keys;
     holds = together.holds;
     middle = g.health left.logs.disk;
     served = together.served;
     counted = is ∙ ap (λ (s : State). s.number) together.state;
-    lasts = λ told since run. lasts g (state_of start) since together.history left disk closed closes told (together.ran told since run);
-    stored = λ told since run. stored g (state_of start) since together.history left disk closed closes told (together.ran told since run);
+    lasts = λ told since run. lasts g (state_of start) since together.history together.tried left disk closed closes told (together.ran told since run);
+    stored = λ told since run. stored g (state_of start) since together.history together.tried left disk closed closes told (together.ran told since run);
     closing = closes.fault;
     handed_out = closes.handed_out ∙ together.same;
   }

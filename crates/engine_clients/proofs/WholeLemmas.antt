@@ -1,11 +1,11 @@
 -- From the first pass to the engine that is handed back.
-use Rattle.std.proofs.Common.{◌≡◌, ◌≤◌, ◌<◌, ◌+◌, ℕ, zero, suc, replicate, append-nil, List, [], ◌∷◌, ◌++◌, length, map, min, Option, Some, slice_index_or, refl, sym, ap, ◌∙◌, subst, arith}
-use Rattle.std.specs.List.{flat_map}
+use Rattle.std.proofs.Common.{◌≡◌, ◌≤◌, ◌<◌, ◌+◌, ℕ, zero, suc, replicate, append-nil, List, [], ◌∷◌, ◌++◌, length, map, min, Option, Some, slice_index_or, refl, sym, ap, ◌∙◌, subst, arith, Contains}
+use Rattle.std.specs.List.{AllByRecursion, flat_map}
 use Rattle.std.proofs.lemmas.List.Elements.{All-weaker}
 use Rattle.shard_disk.specs.Health.{last_count}
 use Rattle.shard_disk.specs.declared.disk.Disk.{Ghosts}
 use Rattle.point_model.specs.Histories.{State}
-use Rattle.session_model.specs.Explained.{all_answers}
+use Rattle.session_model.specs.Explained.{IsTriedIn, all_answers}
 use Rattle.session_loop.specs.Composed.{Part}
 use Rattle.session_loop.specs.Sessions.{faults_in}
 use Rattle.history_turn.specs.Calls.{Closed}
@@ -19,20 +19,23 @@ use Rattle.shard_calls.specs.Told.{limits_of}
 use Rattle.shard_state.specs.History.{Made, entries_of}
 use Rattle.shard_steps.specs.Shards.{IsReady, Runs, state_of}
 use Rattle.shard_steps.specs.declared.shard.Shard.{Shard}
-use Rattle.shard_shared.specs.Entries.{counts_in, entries_in, faults_lent, lent_by, made_by, most_found, views_lent}
-use Rattle.shard_shared.specs.Reaching.{ComesFrom, ComesTo, RunsTo, Stands}
+use Rattle.shard_shared.specs.Entries.{entries_in, faults_lent, lent_by, made_by, most_found, refusals_in, tried_in, tried_lent, views_lent}
+use Rattle.shard_shared.specs.Reaching.{ComesFrom, ComesTo, RanFrom, RunsTo, Stands}
 use Rattle.shard_shared.specs.Told.{EngineView, number_at}
 use Rattle.shard_shared.specs.declared.engine.Engine.{Engine}
 use Rattle.shard_shared.specs.declared.engine.Entered.{Entered}
 use Rattle.shard_shared.specs.declared.engine.Lent.{Lent}
 use Rattle.shard_shared.specs.declared.engine.Lent.TheVariants.{View, Fault, Found}
+use Rattle.shard_shared.specs.declared.engine.Refusal.{Refusal}
 use Rattle.shard_shared.proofs.EntriesLemmas.{found_few, weigh-lent}
 use Rattle.engine_session.specs.Devices.{Devices}
 use Rattle.engine_session.specs.Serving.{AreServed}
+use Rattle.engine_session.proofs.ServedLemmas.{each_in}
 use Rattle.engine_clients.specs.Seats.{JoinsAll, Seat, Served, ServesOne, loans_of, own_of, seated_with, seen_of, unseated}
 use Rattle.engine_clients.specs.Served.{ServesTogether}
 use Rattle.engine_clients.proofs.ComposeLemmas.{Composes, composed, explained}
 use Rattle.engine_clients.proofs.EachLemmas.{ServeEach, each_of_places}
+use Rattle.engine_clients.proofs.TriedLemmas.{tried_told}
 
 -- ---- an engine at its start
 
@@ -41,9 +44,10 @@ none_made [] none = refl
 none_made (m ∷ made) none = absurd (let e = ap length none in omega (arith, e))
 
 module _ {D R W : Type 0} (g : Ghosts D R W) where
-  ran_none : (shard : Shard D) (since : ℕ) → HasRun g (state_of shard) since [] shard → RunsTo g (state_of shard) since [] shard
+  ran_none : (shard : Shard D) (since : ℕ) → HasRun g (state_of shard) since [] [] shard → RunsTo g (state_of shard) since [] [] shard
   ran_none shard since run = record {
     refused = run.refused;
+    were_tried = run.were_tried;
     doubt = run.doubt;
     runs = subst (λ (l : List Made). Runs g shard (state_of shard) since l run.refused run.doubt) (none_made run.made run.are) run.runs;
   }
@@ -60,8 +64,10 @@ module _ {D R W : Type 0} (g : Ghosts D R W) where
     series = record { more = []; from_start = sym (append-nil shard.logs.series.keys); written = λ text wrote. absurd (omega (arith, wrote.2)) };
     handed_out = refl;
     health = record { ages = record { later = omega arith; steady = λ steady. refl }; counted = omega arith; quiet = λ none. refl };
-    ran = λ tells since run. ran_none shard since run;
   }
+
+  pub runs_to_none : (shard : Shard D) → RanFrom g (Some shard) [] [] shard
+  runs_to_none shard = λ tells since run. ran_none shard since run
 
 -- ---- loans
 
@@ -97,11 +103,11 @@ weigh_none : (weight : Lent → ℕ) (loan : Lent) (count : ℕ) → weight loan
 weigh_none weight loan zero none = refl
 weigh_none weight loan (suc count) none = let more = weigh_none weight loan count none in omega (arith, none, more)
 
-weigh_counts : (weight : Lent → ℕ) (counts : List ℕ) → ((count : ℕ) → weight (Found count) ≡ 0) → weigh weight (map Found counts) ≡ 0
+weigh_counts : (weight : Lent → ℕ) (counts : List Refusal) → ((count : Refusal) → weight (Found count) ≡ 0) → weigh weight (map Found counts) ≡ 0
 weigh_counts weight [] none = refl
 weigh_counts weight (count ∷ counts) none = let one = none count in let more = weigh_counts weight counts none in omega (arith, one, more)
 
-faults_are : (loans : List Lent) (views faults : ℕ) (counts : List ℕ) → SameItems loans (lent_by views faults counts) → faults_lent loans ≡ faults
+faults_are : (loans : List Lent) (views faults : ℕ) (counts : List Refusal) → SameItems loans (lent_by views faults counts) → faults_lent loans ≡ faults
 faults_are loans views faults counts same =
     let here = faults_weigh loans in
     let all = same.same counted in
@@ -111,7 +117,7 @@ faults_are loans views faults counts same =
     let c = weigh_counts counted counts (λ count. refl) in
     omega (arith, here, all, whole, a, b, c)
 
-none_out : (loans : List Lent) (views faults : ℕ) (counts : List ℕ) → SameItems loans (lent_by views faults counts) → views_lent loans ≡ [] → views ≡ 0
+none_out : (loans : List Lent) (views faults : ℕ) (counts : List Refusal) → SameItems loans (lent_by views faults counts) → views_lent loans ≡ [] → views ≡ 0
 none_out loans views faults counts same none =
     let here = views_weigh loans in
     let empty = ap (λ (l : List ℕ). length l) none in
@@ -130,7 +136,7 @@ capped start told count now last few rose = omega (arith, few, rose)
 -- what closing the turn tells
 abbrev pub Closes : {D R W : Type 0} → Ghosts D R W → EngineView D → Engine D → Type 0
 Closes {D} g view left = Closed (λ (x : Engine D) (s : Option (Shard D)) (es : List Entered). Stands g s es x) number_at (λ (s : Option (Shard D)). 0) (λ (x : Engine D). x.faults)
-    (λ (x : Engine D). lent_by x.shard.views x.faults (counts_in x.found.items)) view left
+    (λ (x : Engine D). lent_by x.shard.views x.faults (refusals_in x.found.items)) view left
 
 module _ {D R W S K C : Type 0} (g : Ghosts D R W) (members : Devices S K C) (start : Shard D) (first cut_off last : Seat D) (olds starts mids news : List (Served D S K C)) (left : Engine D) where
   -- how the passes and the clients came to the end
@@ -165,7 +171,7 @@ module _ {D R W S K C : Type 0} (g : Ghosts D R W) (members : Devices S K C) (st
 
   -- the engine told exactly the faults that its clients were told
   faults_told : (it : Comes) → faults_lent (flat_map loans_of mids) ≡ left.faults
-  faults_told it = sym (ap faults_lent (all_loans it)) ∙ faults_are last.view.loans left.shard.views left.faults (counts_in left.found.items) it.closes.loans
+  faults_told it = sym (ap faults_lent (all_loans it)) ∙ faults_are last.view.loans left.shard.views left.faults (refusals_in left.found.items) it.closes.loans
 
   comes_to : (it : Comes) → ComesTo g start left.faults it.closes.entries left.shard
   comes_to it = subst (λ (s : Option (Shard D)). ComesFrom g s left.faults it.closes.entries left.shard) (from_start it) it.closes.stands_for.0
@@ -173,14 +179,24 @@ module _ {D R W S K C : Type 0} (g : Ghosts D R W) (members : Devices S K C) (st
   -- no client was told of more series than the engine holds
   few_found : (it : Comes) → most_found (flat_map loans_of mids) ≤ length left.shard.logs.series.keys
   few_found it = subst (λ (l : List Lent). most_found l ≤ length left.shard.logs.series.keys) (all_loans it)
-      (found_few left.shard.views left.faults (counts_in left.found.items) left.shard.logs.series.keys last.view.loans it.closes.stands_for.1
+      (found_few left.shard.views left.faults (refusals_in left.found.items) left.shard.logs.series.keys last.view.loans it.closes.stands_for.1
       (record { most = λ weight. let same = it.closes.loans.same weight in omega (arith, same) }))
+
+  ran_from : (it : Comes) → RanFrom g (Some start) (tried_in (refusals_in left.found.items)) it.closes.entries left.shard
+  ran_from it = subst (λ (s : Option (Shard D)). RanFrom g s (tried_in (refusals_in left.found.items)) it.closes.entries left.shard) (from_start it) it.closes.stands_for.2
+
+  -- what the engine tried, a client asked for and was refused
+  tried_for : (it : Comes) (together : Composes g members start it.closes.entries seat 0 olds mids)
+      → AllByRecursion (IsTriedIn 0 (map (λ (p : Part). p.dialogue) together.parts)) (tried_in (refusals_in left.found.items))
+  tried_for it together = each_in (IsTriedIn 0 (map (λ (p : Part). p.dialogue) together.parts)) (tried_in (refusals_in left.found.items)) (λ entry at.
+      together.asked entry (subst (λ (l : List Lent). Contains (tried_lent l) entry) (all_loans it)
+      (tried_told left.shard.views left.faults (refusals_in left.found.items) last.view.loans it.closes.loans entry at)))
 
   numbers : (it : Comes) → SameItems last.view.own (numbers_after (state_of start).number (length it.closes.entries))
   numbers it = subst (λ (s : Option (Shard D)). SameItems last.view.own (numbers_after (number_at s) (length it.closes.entries))) (from_start it) it.closes.own
 
   are_served : (it : Comes) (together : Composes g members start it.closes.entries seat 0 olds mids)
-      → AreServed together.sessions (state_of start) (limits_of (state_of start) start.logs.series.keys start) (length left.shard.logs.series.keys) (entries_in it.closes.entries) (g.health start.logs.disk) (g.health left.shard.logs.disk)
+      → AreServed together.sessions (state_of start) (limits_of (state_of start) start.logs.series.keys start) (length left.shard.logs.series.keys) (entries_in it.closes.entries) (tried_in (refusals_in left.found.items)) (g.health start.logs.disk) (g.health left.shard.logs.disk)
   are_served it together =
       let to = comes_to it in
       let told = faults_told it in
@@ -192,6 +208,7 @@ module _ {D R W S K C : Type 0} (g : Ghosts D R W) (members : Devices S K C) (st
         faults = capped (g.health start.logs.disk).faults (faults_in (flat_map all_answers (map (λ (p : Part). p.dialogue) together.parts))) left.faults (g.health left.shard.logs.disk).faults last_count
             (subst (λ (n : ℕ). min (faults_in (flat_map all_answers (map (λ (p : Part). p.dialogue) together.parts))) last_count ≤ n) told together.faults) to.health.counted;
         quiet = λ none. to.health.quiet (sym told ∙ together.quiet none);
+        asked = tried_for it together;
       }
 
   pub served_together : Comes → ServesTogether g members start left.shard olds news
@@ -204,11 +221,12 @@ module _ {D R W S K C : Type 0} (g : Ghosts D R W) (members : Devices S K C) (st
         sessions = together.sessions;
         are = together.are;
         history = entries_in it.closes.entries;
+        tried = tried_in (refusals_in left.found.items);
         holds = to.series;
         served = are_served it together;
         state = to.state;
-        ran = λ told since run. let ran = to.ran told since run in record { made = made_by it.closes.entries; are = refl; refused = ran.refused; doubt = ran.doubt; runs = ran.runs };
+        ran = λ told since run. let ran = ran_from it told since run in record { made = made_by it.closes.entries; are = refl; refused = ran.refused; were_tried = ran.were_tried; doubt = ran.doubt; runs = ran.runs };
         ready = to.ready;
-        unlent = none_out last.view.loans left.shard.views left.faults (counts_in left.found.items) it.closes.loans (ap views_lent (all_loans it) ∙ together.views);
+        unlent = none_out last.view.loans left.shard.views left.faults (refusals_in left.found.items) it.closes.loans (ap views_lent (all_loans it) ∙ together.views);
         same = to.handed_out;
       }

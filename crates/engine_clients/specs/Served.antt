@@ -24,17 +24,19 @@ module _ {D S K C : Type 0} where
   left_by finished = record { client = finished.client; report = Some finished.report; pass = None }
 
 -- Each client had a session over the engine, and its report is kept, in the order of the clients. One history explains what all of
--- them were told, no reply tells of more series than the engine holds, and it stands for its start and exactly that history.
+-- them were told, no reply tells of more series than the engine holds, and it stands for its start and exactly that history, with at most
+-- an entry more in a crash that a client was refused.
 pub record ServesTogether {D R W S K C : Type 0} (g : Ghosts D R W) (members : Devices S K C) (start left : Shard D) (old new : List (Served D S K C)) : Type 0 where
   pub finished : List (Finished S K C)
   pub left_are : new ≡ map left_by finished
   pub sessions : List ClientSession
   pub are : AreSessions members (map client_of old) finished sessions
   pub history : List Entry
+  pub tried : List Entry
   pub holds : HoldsSeries start.logs.series.keys history left.logs.series.keys
-  pub served : AreServed sessions (state_of start) (limits_of (state_of start) start.logs.series.keys start) (length left.logs.series.keys) history (g.health start.logs.disk) (g.health left.logs.disk)
+  pub served : AreServed sessions (state_of start) (limits_of (state_of start) start.logs.series.keys start) (length left.logs.series.keys) history tried (g.health start.logs.disk) (g.health left.logs.disk)
   pub state : state_of left ≡ state_after (state_of start) history
-  pub ran : IsTrue g.tells → (since : ℕ) → HasRun g (state_of start) since [] start → HasRun g (state_of start) since history left
+  pub ran : IsTrue g.tells → (since : ℕ) → HasRun g (state_of start) since [] [] start → HasRun g (state_of start) since history tried left
   pub ready : IsReady g left
   -- no view is out, and no reader or writer of the disk was left out
   pub unlent : left.views ≡ 0

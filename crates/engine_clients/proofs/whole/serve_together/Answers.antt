@@ -4,20 +4,22 @@ use Rattle.history_turn.specs.Passes.{fresh}
 use Rattle.history_turn.specs.Views.{newcomer, part_of}
 use Rattle.shard_steps.specs.declared.shard.Shard.{Shard}
 use Rattle.std.specs.declared.snapshot.Snapshot.{Snapshot}
-use Rattle.shard_shared.specs.Entries.{AreFew, counts_in}
-use Rattle.shard_shared.specs.Reaching.{ComesTo}
+use Rattle.shard_shared.specs.Entries.{AreFew, refusals_in, tried_in}
+use Rattle.shard_shared.specs.Reaching.{ComesTo, RanFrom}
+use Rattle.shard_shared.specs.declared.engine.Refusal.{Refusal}
 use Rattle.engine_session.specs.Devices.{devices}
 use Rattle.engine_clients.specs.Seats.{Served, Seat, IsSeated}
 use Rattle.engine_clients.specs.Served.{ServesTogether}
 use Rattle.engine_clients.proofs.PassLemmas.{parts_all, turns_all, seated_all}
-use Rattle.engine_clients.proofs.WholeLemmas.{comes_to_none, served_together}
+use Rattle.engine_clients.proofs.WholeLemmas.{comes_to_none, runs_to_none, served_together}
 use Rattle.engine_clients.proofs.whole.serve_together.Goals as goal
 
 pub new-requires-2-clause-stands : goal.new-requires-2-clause-stands
 new-requires-2-clause-stands g c = (
   subst (λ (n : ℕ). ComesTo g.D.Disk c.new.result.shard n [] c.new.result.shard) (sym c.new.ensures.faults)
       (subst (λ (s : Shard g.row.D.Denot). ComesTo g.D.Disk s 0 [] s) (sym c.new.ensures.shard) (comes_to_none g.D.Disk c.args.shard c.requires.ready)),
-  subst (λ (l : List (Snapshot ℕ)). AreFew (counts_in l) c.new.result.shard.logs.series.keys) (sym c.new.ensures.found) tt,
+  subst (λ (l : List (Snapshot Refusal)). AreFew (refusals_in l) c.new.result.shard.logs.series.keys) (sym c.new.ensures.found) tt,
+  subst (λ (l : List (Snapshot Refusal)). RanFrom g.D.Disk (Some c.new.result.shard) (tried_in (refusals_in l)) [] c.new.result.shard) (sym c.new.ensures.found) (runs_to_none g.D.Disk c.new.result.shard),
 )
 
 pub serve_each-requires-clause-seated : goal.serve_each-requires-clause-seated
