@@ -1,7 +1,7 @@
 ghost use Rattle.std.specs.Prelude.{Contains, IfSome};
 
 use line_protocol::read_batch;
-use point_model::{Need, TagCond, TagTest, TagText};
+use point_model::{Need, PointCursor, TagCond, TagTest, TagText};
 use std::alloc::Global;
 use std::test::Fail;
 use store_trait::{DeleteFault, ListView, PlainStore, Store, ViewFault, WriteFault};
