@@ -24,8 +24,8 @@ fn written(rt: &HostRuntime) -> Option<MemDisk>
     disk.image(&[]).ok()
 }
 
-// Another byte at a place of a file, where it is there.
-fn change<D: Disk>(disk: &mut D, no: u32, at: u64, byte: u8) -> Result<bool, Trouble>
+// A gate that is closed at a place of a file, where it is there.
+fn close_gate<D: Disk>(disk: &mut D, no: u32, at: u64) -> Result<bool, Trouble>
     requires { HasNoReader (D.handed_out disk.old) }
     ensures { HasNoReader (D.handed_out disk.new) }
 {
@@ -36,14 +36,14 @@ fn change<D: Disk>(disk: &mut D, no: u32, at: u64, byte: u8) -> Result<bool, Tro
     if disk.len(no)? < at {
         return Ok(false);
     }
-    disk.write_at(no, at, &[byte])?;
+    disk.write_at(no, at, &[0])?;
     Ok(true)
 }
 
-// What opening shows where a byte is changed so.
-fn changed(rt: &HostRuntime, no: u32, at: u64, byte: u8) -> Option<Seen> {
+// What opening shows where a gate is closed.
+fn changed(rt: &HostRuntime, no: u32, at: u64) -> Option<Seen> {
     let mut disk = written(rt)?;
-    change(&mut disk, no, at, byte).ok()?;
+    close_gate(&mut disk, no, at).ok()?;
     Some(run(rt, disk, Settings::usual(), &[]).1)
 }
 
@@ -67,24 +67,6 @@ fn refused(file: u32, offset: u64, why: Why) -> Option<Seen> {
 }
 
 #[test]
-fn a_changed_byte_is_told_at_its_record(rt: HostRuntime) -> Result<(), Fail> {
-    let seen = changed(&rt, 2, 9, 0xFF);
-    let told = matches!(
-        seen,
-        Some(Seen::Refused(OpenFault::Damaged(Damage {
-            file: 2,
-            offset: 5,
-            why: Why::Sum {
-                stored: _,
-                computed: _,
-            },
-        })))
-    );
-    assert!(rt; told);
-    Ok(())
-}
-
-#[test]
 fn a_missing_file_is_told_where_it_is_read(rt: HostRuntime) -> Result<(), Fail> {
     assert_eq!(rt; without(&rt, 0), refused(0, 0, Why::NoManifest));
     assert_eq!(rt; without(&rt, 1), refused(1, 0, Why::Missing));
@@ -93,14 +75,10 @@ fn a_missing_file_is_told_where_it_is_read(rt: HostRuntime) -> Result<(), Fail> 
 }
 
 #[test]
-fn an_entry_without_its_series_is_told_at_its_gate(rt: HostRuntime) -> Result<(), Fail> {
-    assert_eq!(rt; changed(&rt, 1, 0, 0), refused(2, 0, Why::Body));
-    assert_eq!(rt; changed(&rt, 1, 18, 0), refused(2, 55, Why::Body));
-    Ok(())
-}
-
-#[test]
-fn entries_behind_a_closed_gate_are_gone(rt: HostRuntime) -> Result<(), Fail> {
-    assert_eq!(rt; changed(&rt, 2, 55, 0), Some(Seen::all(None, after(1))));
+fn entries_and_series_behind_a_closed_gate_are_gone(rt: HostRuntime) -> Result<(), Fail> {
+    // An entry without its series is told at its gate; entries that are gone are none.
+    assert_eq!(rt; changed(&rt, 1, 0), refused(2, 0, Why::Body));
+    assert_eq!(rt; changed(&rt, 1, 18), refused(2, 55, Why::Body));
+    assert_eq!(rt; changed(&rt, 2, 55), Some(Seen::all(None, after(1))));
     Ok(())
 }

@@ -1,8 +1,7 @@
-use crate::engines::{SCRIPT, Seen, after, at, run};
+use crate::engines::{Seen, after, run};
 use mem_disk::MemDisk;
 use shard_steps::Settings;
 use std::test::Fail;
-use tsdb_types::Value;
 
 // One edit that names series file 1, segment 2 and floor 0, and the closed gate. The checksum is zlib's.
 const FIRST: [u8; 33] = [
@@ -25,21 +24,5 @@ fn a_new_directory_is_these_bytes(rt: HostRuntime) -> Result<(), Fail> {
     assert_eq!(rt; seen, Seen::all(None, after(0)));
     assert_eq!(rt; disk.bytes(0), Some(FIRST.as_slice()));
     assert_eq!(rt; disk.bytes(2), Some([0].as_slice()));
-    Ok(())
-}
-
-#[test]
-fn what_was_written_is_there_again(rt: HostRuntime) -> Result<(), Fail> {
-    let alloc = rt.alloc();
-    let disk = MemDisk::new(alloc, Vec::new(alloc));
-    let (disk, seen) = run(&rt, disk, Settings::usual(), &SCRIPT);
-    assert_eq!(rt; seen, Seen::all(Some(3), after(3)));
-    let (disk, seen) = run(&rt, disk.image(&[])?, Settings::usual(), &[]);
-    assert_eq!(rt; seen, Seen::all(None, after(3)));
-    let later = (4, Some((at(5), Value::Int(4))), 2);
-    let (disk, seen) = run(&rt, disk.image(&[])?, Settings::usual(), &["cpu v=4i 5"]);
-    assert_eq!(rt; seen, Seen::all(Some(4), later));
-    let (_, seen) = run(&rt, disk.image(&[])?, Settings::usual(), &[]);
-    assert_eq!(rt; seen, Seen::all(None, later));
     Ok(())
 }

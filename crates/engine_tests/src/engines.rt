@@ -190,6 +190,6 @@ fn need(alloc: Global, measurement: &str) -> Result<Need, AllocError> {
     })
 }
 
-pub(crate) fn name(alloc: Global, text: &str) -> Result<Name, AllocError> {
+fn name(alloc: Global, text: &str) -> Result<Name, AllocError> {
     Name::new(alloc, text).map_err(|_| AllocError)
 }

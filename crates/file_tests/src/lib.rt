@@ -4,8 +4,6 @@
 #![tactic(auto)]
 
 #[cfg(test)]
-mod indexes;
-#[cfg(test)]
 mod marks;
 #[cfg(test)]
 mod overlays;

@@ -1,19 +1,10 @@
 use shard_disk::{Damage, FormatFault, Why};
-use std::alloc::{AllocError, Global};
 use std::test::Fail;
 use tombstones::{TombSet, read_v2, write_v2};
 use tsdb_types::Time;
 
 fn at(number: i64) -> Time {
     Time::new(number).unwrap_or_default()
-}
-
-fn set_of(alloc: Global, ranges: &[(i64, i64)]) -> Result<TombSet, AllocError> {
-    let mut set = TombSet::new(alloc);
-    for (from, to) in ranges {
-        set.add(b"cpu#!~#v", at(*from), at(*to))?;
-    }
-    Ok(set)
 }
 
 // The range 1 to 2 of one key, byte by byte.
@@ -24,24 +15,14 @@ const ONE: [u8; 32] = [
 
 #[test]
 fn one_range_is_these_bytes(rt: HostRuntime) -> Result<(), Fail> {
-    let set = set_of(rt.alloc(), &[(1, 2)])?;
+    let mut set = TombSet::new(rt.alloc());
+    set.add(b"cpu#!~#v", at(1), at(2))?;
     let bytes = write_v2(rt.alloc(), &set)?;
     assert!(rt; bytes.as_slice() == ONE.as_slice());
     let back = read_v2(rt.alloc(), &ONE, 7)?.carry()?;
     assert!(rt; back.covers(b"cpu#!~#v", at(2)));
     assert!(rt; !back.covers(b"cpu#!~#v", at(3)));
     assert!(rt; !back.covers(b"cpu#!~#w", at(2)));
-    Ok(())
-}
-
-#[test]
-fn ranges_that_touch_are_one(rt: HostRuntime) -> Result<(), Fail> {
-    let one = set_of(rt.alloc(), &[(1, 6), (9, 9)])?;
-    let parts = set_of(rt.alloc(), &[(9, 9), (4, 6), (8, 2), (1, 3), (2, 5)])?;
-    let bytes = write_v2(rt.alloc(), &one)?;
-    let same = write_v2(rt.alloc(), &parts)?;
-    assert!(rt; bytes.as_slice() == same.as_slice());
-    assert!(rt; bytes.len() == 4 + 2 * 28);
     Ok(())
 }
 

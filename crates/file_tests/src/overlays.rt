@@ -52,30 +52,3 @@ fn the_next_row_is_the_first_of_the_newest(rt: HostRuntime) {
     assert!(rt; gives(false, &[None, None, None], None));
     assert!(rt; gives(true, &[], None));
 }
-
-#[test]
-fn stepping_gives_each_time_once(rt: HostRuntime) {
-    let newest = [(at(10), Value::Int(1)), (at(30), Value::Int(2))];
-    let middle = [(at(10), Value::Int(3)), (at(20), Value::Int(4))];
-    let oldest = [
-        (at(5), Value::Int(5)),
-        (at(20), Value::Int(6)),
-        (at(30), Value::Int(7)),
-    ];
-    let sources = [newest.as_slice(), middle.as_slice(), oldest.as_slice()];
-    let mut places = [0, 0, 0];
-    let mut overlay = Overlay::new(false);
-    for want in [head(5, 5), head(10, 1), head(20, 4), head(30, 2), None] {
-        let mut heads = [None, None, None];
-        for k in 0..3 {
-            heads[k] = sources[k].get(places[k]).copied();
-        }
-        let next = overlay.step(&heads).map(|(_, time, value)| (time, value));
-        assert!(rt; next == want);
-        for k in 0..3 {
-            if heads[k].map(|head| head.0) == next.map(|next| next.0) {
-                places[k] = usize::wrapping_add(places[k], 1);
-            }
-        }
-    }
-}

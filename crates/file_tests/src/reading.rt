@@ -137,49 +137,6 @@ fn wrong_files_are_named(rt: HostRuntime) -> Result<(), Failed> {
     Ok(())
 }
 
-/// A file of the two keys, whose rows stand in this order, and whose block the two of them have each.
-fn two_keys(alloc: Global, first: u8, second: u8) -> Result<Vec<u8>, AllocError> {
-    let mut bytes = Vec::new(alloc);
-    bytes.extend_from_slice(&FILE[..33])?;
-    bytes.extend_from_slice(&FILE[5..33])?;
-    for (name, place) in [(first, 5), (second, 33)] {
-        bytes.extend_from_slice(&FILE[33..42])?;
-        bytes.push(name)?;
-        bytes.extend_from_slice(&FILE[43..69])?;
-        bytes.push(place)?;
-        bytes.extend_from_slice(&FILE[70..74])?;
-    }
-    bytes.extend_from_slice(&FILE[74..81])?;
-    bytes.push(61)?;
-    Ok(bytes)
-}
-
-#[test]
-fn keys_ascend(rt: HostRuntime) -> Result<(), Failed> {
-    let alloc = rt.alloc();
-    assert_eq!(rt; fault_of(alloc, &two_keys(alloc, b'v', b'w')?)?, None);
-    assert_eq!(rt;
-        fault_of(alloc, &two_keys(alloc, b'w', b'v')?)?,
-        damaged(102, Why::Keys)
-    );
-    assert_eq!(rt;
-        fault_of(alloc, &two_keys(alloc, b'v', b'v')?)?,
-        damaged(102, Why::Keys)
-    );
-    let mut reader = opened(alloc, &two_keys(alloc, b'v', b'w')?, None)?;
-    let index = TsmIndex::read(alloc, &mut reader, 7)?;
-    assert_eq!(rt; index.len(), 2);
-    assert_eq!(rt; index.row(1).key.as_slice(), b"cpu#!~#w".as_slice());
-    let Some(entries) = index.entries(b"cpu#!~#w") else {
-        return Err(Failed::from(Trouble::Fault));
-    };
-    assert_eq!(rt; entries.len(), 1);
-    assert_eq!(rt; entries[0].offset, 33);
-    assert!(rt; index.entries(b"cpu#!~#u").is_none());
-    assert!(rt; index.entries(b"cpu#!~#x").is_none());
-    Ok(())
-}
-
 #[test]
 fn a_cursor_gives_the_live_points(rt: HostRuntime) -> Result<(), Failed> {
     let alloc = rt.alloc();

@@ -3,9 +3,9 @@ ghost use Rattle.tsdb_types.specs.Keys.{MarkAt};
 ghost use Rattle.tsm_format.specs.Rows.{IsAbove};
 ghost use Rattle.tsm_file.specs.Tried.{HasPushed};
 
-use mem_disk::{Fail, MemDisk};
+use mem_disk::MemDisk;
 use shard_disk::{Disk, Trouble, Writer};
-use std::alloc::{AllocError, Global};
+use std::alloc::Global;
 use std::test::Fail as Failed;
 use tsdb_types::{Time, Value};
 use tsm_file::{TsmFacts, TsmWriter};
@@ -21,8 +21,6 @@ const FILE: [u8; 82] = [
 ];
 
 const KEY: [u8; 8] = *b"cpu#!~#v";
-
-const SECOND: [u8; 8] = *b"cpu#!~#w";
 
 /// The value 1 at so many times of a key that comes behind the last one: 10, 20, 30 and so on.
 fn push_run<W: Writer>(writer: &mut TsmWriter<W>, key: &[u8], count: u16) -> Result<(), Trouble>
@@ -43,23 +41,19 @@ fn push_run<W: Writer>(writer: &mut TsmWriter<W>, key: &[u8], count: u16) -> Res
     Ok(())
 }
 
-/// So many points of two keys, the second of which may have none.
-fn fill<W: Writer>(writer: &mut TsmWriter<W>, first: u16, second: u16) -> Result<(), Trouble>
+/// So many points of the key.
+fn fill<W: Writer>(writer: &mut TsmWriter<W>, count: u16) -> Result<(), Trouble>
     requires new { HasPushed (IsTrue W.tells) W.content W.stage writer.old 0 None }
-    requires some { 0 < first }
+    requires some { 0 < count }
     ensures { OnOk result ((most : ℕ) × (last : List ℕ) × HasPushed (IsTrue W.tells) W.content W.stage writer.new most (Some last)) }
 {
-    push_run(writer, &KEY, first)?;
-    if second == 0 {
-        return Ok(());
-    }
-    push_run(writer, &SECOND, second)?;
+    push_run(writer, &KEY, count)?;
     Ok(())
 }
 
-/// A file with so many points of the two keys, and its facts.
-fn file_of(alloc: Global, disk: &mut MemDisk, first: u16, second: u16) -> Result<TsmFacts, Trouble>
-    requires { 0 < first }
+/// A file with so many points of the key, and its facts.
+fn file_of(alloc: Global, disk: &mut MemDisk, count: u16) -> Result<TsmFacts, Trouble>
+    requires { 0 < count }
 {
     let device = disk.begin()?;
     let mut writer = match TsmWriter::new(alloc, device) {
@@ -69,7 +63,7 @@ fn file_of(alloc: Global, disk: &mut MemDisk, first: u16, second: u16) -> Result
             return Err(trouble);
         }
     };
-    if let Err(trouble) = fill(&mut writer, first, second) {
+    if let Err(trouble) = fill(&mut writer, count) {
         disk.drop_writer(writer.give_up());
         return Err(trouble);
     }
@@ -88,18 +82,11 @@ fn file_of(alloc: Global, disk: &mut MemDisk, first: u16, second: u16) -> Result
     }
 }
 
-/// A disk whose first writer fails at its call at this place.
-fn disk_failing_at(alloc: Global, place: u64) -> Result<MemDisk, AllocError> {
-    let mut failing = Vec::new(alloc);
-    failing.push(Fail::Writer(0, place))?;
-    Ok(MemDisk::new(alloc, failing))
-}
-
 #[test]
 fn three_points_are_82_bytes(rt: HostRuntime) -> Result<(), Failed> {
     let alloc = rt.alloc();
     let mut disk = MemDisk::new(alloc, Vec::new(alloc));
-    let facts = file_of(alloc, &mut disk, 3, 0)?;
+    let facts = file_of(alloc, &mut disk, 3)?;
     assert_eq!(rt; disk.bytes(0), Some(FILE.as_slice()));
     assert_eq!(rt; facts.points, 3);
     assert_eq!(rt; facts.most_entries, 1);
@@ -112,46 +99,9 @@ fn blocks_have_a_thousand_points(rt: HostRuntime) -> Result<(), Failed> {
     let alloc = rt.alloc();
     for (count, blocks) in [(1000, 1), (1001, 2), (2000, 2), (2001, 3)] {
         let mut disk = MemDisk::new(alloc, Vec::new(alloc));
-        let facts = file_of(alloc, &mut disk, count, 0)?;
+        let facts = file_of(alloc, &mut disk, count)?;
         assert_eq!(rt; facts.points, u64::from(count));
         assert_eq!(rt; facts.most_entries, blocks);
     }
-    Ok(())
-}
-
-#[test]
-fn two_keys_stand_one_behind_the_other(rt: HostRuntime) -> Result<(), Failed> {
-    let alloc = rt.alloc();
-    let mut disk = MemDisk::new(alloc, Vec::new(alloc));
-    let facts = file_of(alloc, &mut disk, 3, 1001)?;
-    assert_eq!(rt; facts.points, 1004);
-    assert_eq!(rt; facts.most_entries, 2);
-    assert_eq!(rt; facts.index.len(), 2);
-    let first = facts.index.entries(&KEY).map(|entries| entries.len());
-    assert_eq!(rt; first, Some(1));
-    let second = facts.index.entries(&SECOND).map(|entries| entries.len());
-    assert_eq!(rt; second, Some(2));
-    Ok(())
-}
-
-// The header is call 0, the block of the one key call 1, the index and the footer call 2, and making durable call 3.
-
-#[test]
-fn a_failing_device_is_told(rt: HostRuntime) -> Result<(), Failed> {
-    let alloc = rt.alloc();
-    for place in 0..4 {
-        let mut disk = disk_failing_at(alloc, place)?;
-        let refused = file_of(alloc, &mut disk, 3, 0).err();
-        assert_eq!(rt; refused, Some(Trouble::Fault));
-        assert!(rt; disk.bytes(0).is_none());
-    }
-    let mut disk = disk_failing_at(alloc, 4)?;
-    assert!(rt; file_of(alloc, &mut disk, 3, 0).is_ok());
-    // a block that is full is written by the push of the next point
-    let mut disk = disk_failing_at(alloc, 1)?;
-    assert_eq!(rt;
-        file_of(alloc, &mut disk, 1001, 0).err(),
-        Some(Trouble::Fault)
-    );
     Ok(())
 }

@@ -1,30 +1,11 @@
-ghost use Rattle.std.specs.Prelude.{◌≡◌, ◌≢◌, ◌∷◌, [], IfOk, OnOk};
+ghost use Rattle.std.specs.Prelude.{◌≡◌, ◌≢◌, OnOk};
 ghost use Rattle.shard_disk.specs.Stage.{Finished, Refused};
 
-use gate_log::LogFault;
-use manifest_log::{Change, Changes, Edit, Manifest};
+use manifest_log::Manifest;
 use mem_disk::MemDisk;
-use shard_disk::{Damage, Disk, Trouble, Why, Writer};
-use std::alloc::{AllocError, Global};
+use shard_disk::{Disk, Trouble, Writer};
+use std::alloc::Global;
 use std::test::Fail;
-
-/// The first edit of an empty directory whose segment is file 1.
-fn first_edit(alloc: Global) -> Result<Edit, AllocError>
-    ensures { IfOk result (λ edit. edit.changes ≡ Change.AddSegment 1 ∷ Change.SetFloor 0 ∷ []) }
-{
-    let mut list = Vec::new(alloc);
-    list.push(Change::AddSegment { no: 1 })?;
-    list.push(Change::SetFloor { number: 0 })?;
-    Ok(Edit {
-        changes: Changes::new(list),
-    })
-}
-
-// The record of that edit, and the closed gate. The checksum is zlib's.
-const FIRST: [u8; 28] = [
-    0x01, 0x00, 0x00, 0x00, 0x12, 0xCE, 0x4A, 0x8D, 0x1E, 0x00, 0x00, 0x00, 0x02, 0x01, 0x00, 0x00,
-    0x00, 0x01, 0x06, 0x00, 0x00, 0x00, 0x00, 0x00, 0x00, 0x00, 0x00, 0x00,
-];
 
 // One record with each of the changes: the segments 11 and 12 added and 11 forgotten, the floor 9, the file 13 of
 // generation 9 with tombstones in 15 and then in 16, the series file 17, the index in 18 and 19 (hexadecimal).
@@ -83,37 +64,5 @@ fn each_change_is_read(rt: HostRuntime) -> Result<(), Fail> {
         (directory.index_log, directory.index_file),
         (Some(0x18), Some(0x19))
     );
-    Ok(())
-}
-
-#[test]
-fn a_changed_bit_is_named(rt: HostRuntime) -> Result<(), Fail> {
-    let mut bytes = FIRST;
-    bytes[17] = 0;
-    let mut disk = disk_of(rt.alloc(), &bytes)?;
-    let fault = Manifest::read(rt.alloc(), &mut disk).err();
-    assert!(rt;
-        matches!(
-            fault,
-            Some(LogFault::Damaged(Damage {
-                file: 0,
-                offset: 5,
-                why: Why::Sum { .. }
-            }))
-        )
-    );
-    Ok(())
-}
-
-#[test]
-fn the_first_edit_is_these_bytes(rt: HostRuntime) -> Result<(), Fail> {
-    let alloc = rt.alloc();
-    let mut disk = MemDisk::new(alloc, Vec::new(alloc));
-    let mut manifest = Manifest::begin(alloc, &mut disk)?;
-    let edit = first_edit(alloc)?;
-    let frame = Manifest::frame(alloc, &edit)?;
-    manifest.edit(&mut disk, &frame)?;
-    assert!(rt; !manifest.in_doubt());
-    assert_eq!(rt; disk.bytes(0), Some(FIRST.as_slice()));
     Ok(())
 }

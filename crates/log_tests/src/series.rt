@@ -1,9 +1,9 @@
 ghost use Rattle.std.specs.Prelude.{◌≡◌, ◌∷◌, [], codes, IfOk};
 
-use gate_log::{Frame, Log, LogFault};
+use gate_log::Log;
 use mem_disk::{Fail, MemDisk};
 use series_store::Series;
-use shard_disk::{Damage, Trouble, Why};
+use shard_disk::Trouble;
 use std::alloc::Global;
 use std::test::Fail as Failed;
 use tsdb_types::{Seed, SeriesKey};
@@ -12,12 +12,6 @@ use tsdb_types::{Seed, SeriesKey};
 const TWO: [u8; 31] = [
     0x01, 0x00, 0x00, 0x00, 0x15, 0x32, 0x74, 0x1A, 0xA9, 0x00, 0x00, 0x00, 0x02, 0x00, 0x03, 0x63,
     0x70, 0x75, 0x00, 0x0A, 0x63, 0x70, 0x75, 0x2C, 0x68, 0x6F, 0x73, 0x74, 0x3D, 0x61, 0x00,
-];
-
-// The record of `cpu`, and the closed gate.
-const ONE: [u8; 19] = [
-    0x01, 0x00, 0x00, 0x00, 0x09, 0x7A, 0x21, 0xE1, 0xD9, 0x00, 0x00, 0x00, 0x01, 0x00, 0x03, 0x63,
-    0x70, 0x75, 0x00,
 ];
 
 fn key(alloc: Global, text: &str) -> Result<SeriesKey, Failed>
@@ -87,31 +81,5 @@ fn a_series_of_a_failed_sync_has_one_id(rt: HostRuntime) -> Result<(), Failed> {
         assert_eq!(rt; disk.bytes(series.file()), Some(TWO.as_slice()));
         assert_eq!(rt; (series.len(), series.id(&host)), (2, Some(1)));
     }
-    Ok(())
-}
-
-#[test]
-fn a_file_is_read_or_its_damage_named(rt: HostRuntime) -> Result<(), Failed> {
-    let alloc = rt.alloc();
-    let seed = Seed::new(7);
-    let mut disk = MemDisk::new(alloc, Vec::new(alloc));
-    let mut log = Log::make(&mut disk)?;
-    log.append(&mut disk, &Frame::new(alloc, &TWO[9..30])?)?;
-    let series = Series::read(alloc, seed, &mut disk, log.file())?;
-    let text = series.key(1).map(|key| key.text());
-    assert_eq!(rt; (series.len(), text), (2, Some("cpu,host=a")));
-    // `cpu` stands again in the second record.
-    log.append(&mut disk, &Frame::new(alloc, &ONE[9..18])?)?;
-    let fault = Series::read(alloc, seed, &mut disk, log.file()).err();
-    assert!(rt;
-        matches!(
-            fault,
-            Some(LogFault::Damaged(Damage {
-                file: 0,
-                offset: 30,
-                why: Why::Body
-            }))
-        )
-    );
     Ok(())
 }

@@ -1,8 +1,9 @@
-//! Where a session tells the gate that it has come: at a view while this is out, and at a reply when all of it is written.
+//! Where a session tells the gate that it has come: at a view while this is out, and at a reply when all of it is written. Its source gives a byte at a
+//! time, and its sink takes one.
 use point_model::{Deletion, Need};
-use session_io::{Gate, MemClock, MemSink, MemSource, Place, Sink};
+use session_io::{Gate, MemClock, MemSink, MemSource, Place, Sink, Source};
 use session_loop::session;
-use shard_disk::Trouble;
+use shard_disk::{Fault, Trouble};
 use std::sync::atomic::{AtomicU64, Ordering};
 use std::test::Fail;
 use store_trait::{DeleteFault, ListView, PlainStore, Store, ViewFault, WriteFault};
@@ -43,6 +44,29 @@ impl<'a> Store for NotingStore<'a> {
 
     fn number(&mut self) -> u64 {
         self.inner.number()
+    }
+}
+
+/// A source that gives a byte at a time.
+#[derive(Drop)]
+struct ShortSource {
+    inner: MemSource,
+}
+
+impl Source for ShortSource {
+    ghost given = { λ s. ⟦<MemSource as Source>⟧.given s.inner };
+
+    ghost left = { λ s. ⟦<MemSource as Source>⟧.left s.inner };
+
+    ghost ended = { λ s. ⟦<MemSource as Source>⟧.ended s.inner };
+
+    ghost reads_left = { λ s. ⟦<MemSource as Source>⟧.reads_left s.inner };
+
+    ghost health = { λ s. ⟦<MemSource as Source>⟧.health s.inner };
+
+    fn read(&mut self, buffer: &mut [u8]) -> Result<usize, Fault> {
+        let one = buffer.len().min(1);
+        self.inner.read(&mut buffer[..one])
     }
 }
 
@@ -109,8 +133,10 @@ fn the_gate_is_told_where_a_session_is(rt: HostRuntime) -> Result<(), Fail> {
         inner: PlainStore::new(alloc, 0),
         out: &out,
     };
-    let input = b"INSERT cpu v=1i 10\nSELECT v FROM cpu\nAFTER 1\n";
-    let mut source = MemSource::new(input.to_vec(alloc)?, Vec::new(alloc));
+    let input = b"INSERT cpu v=1i 10\n\nSELECT v FROM cpu\nAFTER 1";
+    let mut source = ShortSource {
+        inner: MemSource::new(input.to_vec(alloc)?, Vec::new(alloc)),
+    };
     let mut sink = NotingSink {
         inner: MemSink::new(alloc, Vec::new(alloc)),
         taken: &taken,
