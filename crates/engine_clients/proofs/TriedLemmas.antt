@@ -1,5 +1,5 @@
 -- What the engine noted as tried, its clients have among their loans: entries are told apart by their codes.
-use Rattle.std.proofs.Common.{◌≡◌, ◌∙◌, ℕ, ◌+◌, ◌≤◌, zero, suc, Bool, true, false, ◌&&◌, cond, eqb, eq-eqb, eqb-true, List, [], ◌∷◌, ◌++◌, map, replicate, refl, sym, ap, subst, arith, Contains, ◌⊎◌, inl, inr, ⊎_elim}
+use Rattle.std.proofs.Common.{◌≡◌, ◌∙◌, ℕ, ◌+◌, ◌≤◌, zero, suc, Bool, true, false, ◌&&◌, eqb, eq-eqb, eqb-true, List, [], ◌∷◌, ◌++◌, map, replicate, refl, sym, ap, subst, arith, Contains, ◌⊎◌, inl, inr, ⊎_elim}
 use Rattle.std.specs.Coded.{Coded, codes}
 use Rattle.std.proofs.lemmas.Bool.{false≢true}
 use Rattle.std.proofs.lemmas.List.Elements.{Contains-append_cases, Contains-append_left, Contains-append_right, Contains-push, Contains-push_cases}
@@ -38,13 +38,14 @@ second_true : (a b : Bool) → (a && b) ≡ true → b ≡ true
 second_true true b both = both
 second_true false b both = absurd (false≢true both)
 
-unfolding same_code
 code_of_itself : (a : Gv) → same_code a a ≡ true
+unfolding same_code
 code_of_itself gnil = refl
 code_of_itself (gnum n) = eq-eqb n n refl
 code_of_itself (gcons a b) = and_true (same_code a a) (same_code b b) (code_of_itself a) (code_of_itself b)
 
 code_is : (a b : Gv) → same_code a b ≡ true → a ≡ b
+unfolding same_code
 code_is gnil gnil same = refl
 code_is gnil (gnum n) same = absurd (false≢true same)
 code_is gnil (gcons a b) same = absurd (false≢true same)
@@ -64,9 +65,13 @@ same_entry a b = same_code (entry_code.code a) (entry_code.code b)
 
 -- ---- how often an entry stands in a list
 
+abbrev once : Bool → ℕ
+once true = 1
+once false = 0
+
 abbrev times : Entry → List Entry → ℕ
 times entry [] = 0
-times entry (other ∷ entries) = cond (same_entry entry other) 1 0 + times entry entries
+times entry (other ∷ entries) = once (same_entry entry other) + times entry entries
 
 times-append : (entry : Entry) (xs ys : List Entry) → times entry (xs ++ ys) ≡ times entry xs + times entry ys
 times-append entry [] ys = omega arith
@@ -82,7 +87,7 @@ there_some entry (other ∷ entries) least = by_test (same_entry entry other)
     (λ same. subst (λ (e : Entry). Contains (other ∷ entries) e) (sym (entry_code.inj entry other (code_is (entry_code.code entry) (entry_code.code other) same)))
     (Contains-append_left (other ∷ []) entries other (Contains-push [] other)))
     (λ none.
-    let here : cond (same_entry entry other) 1 0 ≡ 0 = ap (λ (b : Bool). cond b 1 0) none in
+    let here : once (same_entry entry other) ≡ 0 = ap once none in
     Contains-append_right (other ∷ []) entries entry (there_some entry entries (omega (arith, least, here))))
 
 some_there : (entry : Entry) (entries : List Entry) → Contains entries entry → 1 ≤ times entry entries
@@ -90,7 +95,7 @@ some_there entry [] at = absurd (let below = at.1 in omega (arith, below))
 some_there entry (other ∷ entries) at = ⊎_elim
     (λ first. ⊎_elim (λ none. absurd (let below = none.1 in omega (arith, below)))
     (λ is.
-    let here : cond (same_entry entry other) 1 0 ≡ 1 = ap (λ (b : Bool). cond b 1 0) (subst (λ (e : Entry). same_entry entry e ≡ true) (sym is) (code_of_itself (entry_code.code entry))) in
+    let here : once (same_entry entry other) ≡ 1 = ap once (subst (λ (e : Entry). same_entry entry e ≡ true) (sym is) (code_of_itself (entry_code.code entry))) in
     omega (arith, here))
     (Contains-push_cases [] other entry first))
     (λ behind. let more = some_there entry entries behind in omega (arith, more))

@@ -23,9 +23,9 @@ use Rattle.tsdb_types.proofs.seed.Seed.TheSendSync as seed
 use Rattle.shard_steps.proofs.settings.Settings.TheSendSync as settings
 use Rattle.shard_steps.specs.contracts.shard.Shard as shard
 use Rattle.shard_shared.specs.contracts.engine.Engine as engine
+use Rattle.shard_shared.specs.contracts.engine.Refusal as refusal
 use denote.RattleType.{RattleType}
 use denote.Struct.Declared.{shape}
-use denote.Builtin.{u64}
 use denote.Param.Send.{IsSend, owning_send, sendable, struct_send, recorded_send, view_send}
 
 pub cache_send : IsSend cache.the_row
@@ -49,8 +49,8 @@ pub shard_send : (D : RattleType) → IsSend D → IsSend (shard.the_row D)
 shard_send D d = recorded_send (shard.the_field D).row _ _ (shard.the_type D).to_one (shard_field_send D d)
 
 -- a note has no bytes
-note_send : IsSend (snapshot.the_row u64)
-note_send = owning_send (snapshot.the_type u64) (search sendable, tt) (λ d. tt) (λ k x w. tt)
+note_send : IsSend (snapshot.the_row refusal.the_row)
+note_send = owning_send (snapshot.the_type refusal.the_row) (search sendable, tt) (λ d. tt) (λ k x w. tt)
 
 pub engine_send : (D : RattleType) → IsSend D → IsSend (engine.the_row D)
 engine_send D d = recorded_send (engine.the_field D).row _ _ (engine.the_type D).to_one (struct_send (shape (engine.the_type D)) (shard_field_send D d, (search sendable, (vec.the_send _ _ global.ghosts note_send heap.the_send (search frees), tt))))
