@@ -18,7 +18,7 @@ use Rattle.index_lists.specs.declared.term.Term.TheVariants.{Measurement, TagKey
 use Rattle.index_lists.specs.Listing.{AreIdsOf, Holds, Listing}
 use Rattle.index_lists.specs.Pairs.{Agrees, Pair}
 use Rattle.index_lists.specs.Terms.{has_key, has_value, is_of, measurement_of}
-use Rattle.index_lists.proofs.PairLemmas.{In, all_from, all_in, and_first, any_in, both_ways, nat_same, not_false, same_nat, same_truth}
+use Rattle.index_lists.proofs.PairLemmas.{In, all_from, all_in, and_first, any_in, both_ways, nat_same, not_false, same_nat, same_text, same_truth, text_same}
 use Rattle.series_index.specs.Index.{is_match}
 use Rattle.series_index.specs.Matching.{Told, has, ids_with, matching, series_in}
 use Rattle.series_index.proofs.FilterLemmas.{all_have, all_map, filter_same, has_picked, without_picked}
@@ -149,14 +149,14 @@ module _ (series_of : ℕ → List ℕ) (lists : Listing) (measurement all : Lis
 
 -- ---- the series of the ids, by the pairs
 
-first_series : (pairs : List Pair) (pair : Pair) → In pairs pair → AllByRecursion (λ other. other.id ≡ pair.id → other.series ≡ pair.series) pairs → series_in pairs pair.id ≡ pair.series
+pub first_series : (pairs : List Pair) (pair : Pair) → In pairs pair → AllByRecursion (λ other. other.id ≡ pair.id → other.series ≡ pair.series) pairs → series_in pairs pair.id ≡ pair.series
 first_series [] pair m agree = absurd m
-first_series (p ∷ ps) pair m agree = by (nat_eq pair.id p.id) refl m
+first_series (p ∷ ps) pair m agree = by (nat_eq pair.id p.id) refl m (λ n. first_series ps pair n agree.1)
   where
-    by : (b : Bool) → nat_eq pair.id p.id ≡ b → (p ≡ pair) ⊎ In ps pair → (if b then p.series else series_in ps pair.id) ≡ pair.series
-    by true e m = agree.0 (sym (same_nat pair.id p.id e))
-    by false e (inl own) = absurd (both_ways (nat_same pair.id p.id (ap (λ (q : Pair). q.id) (sym own))) e)
-    by false e (inr n) = first_series ps pair n agree.1
+    by : (b : Bool) → nat_eq pair.id p.id ≡ b → (p ≡ pair) ⊎ In ps pair → (In ps pair → series_in ps pair.id ≡ pair.series) → (if b then p.series else series_in ps pair.id) ≡ pair.series
+    by true e m rest = agree.0 (sym (same_nat pair.id p.id e))
+    by false e (inl own) rest = absurd (both_ways (nat_same pair.id p.id (ap (λ (q : Pair). q.id) (sym own))) e)
+    by false e (inr n) rest = rest n
 
 abbrev pub told_by : (pairs : List Pair) (lists : Listing) (measurement all : List ℕ) → Holds pairs lists → AreIdsOf (is_of (Measurement measurement)) pairs all → Told (series_in pairs) lists measurement all
 told_by pairs lists measurement all holds are = record {
@@ -212,3 +212,25 @@ match_is (Ok v) lists measurement all condition are e = λ pairs holds.
     let told = told_by pairs lists measurement all holds (are pairs holds) in
     are_picked (series_in pairs) lists measurement all told condition v.items (e (series_in pairs) told)
 match_is (Err x) lists measurement all condition are e = tt
+
+-- ---- a pair is there where its field's list has its id
+
+turned : (a b : List ℕ) → bytes_eq a b ≡ bytes_eq b a
+turned a b = same_truth (bytes_eq a b) (bytes_eq b a) (λ e. text_same b a (sym (same_text a b e))) (λ e. text_same a b (sym (same_text b a e)))
+
+pub has_pair : (id : ℕ) (series field : List ℕ) (pairs : List Pair) → AllByRecursion (λ other. other.id ≡ id → other.series ≡ series) pairs
+    → list_any (λ pair. nat_eq id pair.id && (bytes_eq (measurement_of pair.series) (measurement_of series) && bytes_eq pair.field field)) pairs ≡ list_any (λ other. nat_eq id other.id && bytes_eq field other.field) pairs
+has_pair id series field [] agree = refl
+has_pair id series field (p ∷ ps) agree = by (nat_eq id p.id) refl (has_pair id series field ps agree.1)
+  where
+    some : Bool
+    some = list_any (λ (pair : Pair). nat_eq id pair.id && (bytes_eq (measurement_of pair.series) (measurement_of series) && bytes_eq pair.field field)) ps
+
+    any : Bool
+    any = list_any (λ (other : Pair). nat_eq id other.id && bytes_eq field other.field) ps
+
+    by : (a : Bool) → nat_eq id p.id ≡ a → some ≡ any → (a && (bytes_eq (measurement_of p.series) (measurement_of series) && bytes_eq p.field field)) || some ≡ (a && bytes_eq field p.field) || any
+    by true e rest =
+        let same = text_same (measurement_of p.series) (measurement_of series) (ap measurement_of (agree.0 (sym (same_nat id p.id e)))) in
+        ap (λ (b : Bool). (b && bytes_eq p.field field) || some) same ∙ ap (λ (b : Bool). b || some) (turned p.field field) ∙ ap (λ (b : Bool). bytes_eq field p.field || b) rest
+    by false e rest = rest

@@ -62,8 +62,8 @@ pub join_one : (series_of : ℕ → List ℕ) (all : List ℕ) (j : Join) (condi
 join_one series_of all j conditions lists before below new first second ids good are e f g joins =
     let one = lists_pop series_of all conditions lists before first are e in
     let two = lists_pop series_of all one.others before below second one.rest f in
-    let all : conditions ≡ one.condition ∷ two.condition ∷ two.others = one.are ∙ ap (λ (cs : List Condition). one.condition ∷ cs) two.are in
-    subst (λ (cs : List Condition). AreLists series_of all (with_join j cs) new) (sym all) (below, ids, g, joins series_of one.condition two.condition all good one.is two.is, two.rest)
+    let whole : conditions ≡ one.condition ∷ two.condition ∷ two.others = one.are ∙ ap (λ (cs : List Condition). one.condition ∷ cs) two.are in
+    subst (λ (cs : List Condition). AreLists series_of all (with_join j cs) new) (sym whole) (below, ids, g, joins series_of one.condition two.condition all good one.is two.is, two.rest)
 
 -- no list, or one alone, is no two sides
 pub no_first : (series_of : ℕ → List ℕ) (ids : List ℕ) (j : Join) (conditions : List Condition) (lists new : List (Vec ℕ Global)) → lists ≡ [] → new ≡ [] → AreLists series_of ids conditions lists → AreLists series_of ids (with_join j conditions) new

@@ -1,5 +1,5 @@
 -- Changes that become ready one behind the other, are forgotten from the last on, and are made from the first on.
-use Rattle.std.proofs.Common.{◌≡◌, ℕ, ◌+◌, ◌≤◌, List, [], ◌∷◌, ◌++◌, length, map, Result, Ok, Err, OnOk, OnErr, refl, sym, ap, ◌∙◌, subst, arith, append_assoc, append-nil}
+use Rattle.std.proofs.Common.{◌≡◌, ℕ, suc, ◌+◌, ◌≤◌, List, [], ◌∷◌, ◌++◌, length, map, Result, Ok, Err, OnOk, OnErr, refl, sym, ap, ◌∙◌, subst, arith, append_assoc, append-nil}
 use Rattle.std.specs.List.{AllByRecursion}
 use Rattle.std.proofs.lemmas.List.{length-append}
 use Rattle.index_lists.specs.declared.change.IndexChange.{IndexChange}
@@ -40,7 +40,7 @@ staged_are changes l m ps qs s = ap changes_of s.behind ∙ changes_behind ps s.
 
 pub many_changes : (ps : List Prepared) → length (changes_of ps) ≡ length ps
 many_changes [] = refl
-many_changes (p ∷ ps) = ap (λ (n : ℕ). n + 1) (many_changes ps)
+many_changes (p ∷ ps) = ap suc (many_changes ps)
 
 -- ---- from the last on
 

@@ -52,14 +52,14 @@ or_none false c e = e
 
 has_text : (key value : List ℕ) (tags : List Tag) → value ≢ [] → count_by (λ tag. bytes_eq tag.key key) tags ≤ 1 → has_value key value tags ≡ bytes_eq (text_of key tags) value
 has_text key value [] some few = sym (none_not value some)
-has_text key value (tag ∷ tags) some few = by (bytes_eq tag.key key) refl
+has_text key value (tag ∷ tags) some few = by (bytes_eq tag.key key) refl (λ few. has_text key value tags some few)
   where
     counted : count_by (λ t. bytes_eq t.key key) (tag ∷ tags) ≡ bit (bytes_eq tag.key key) + count_by (λ t. bytes_eq t.key key) tags
     counted = count_cons (λ (t : Tag). bytes_eq t.key key) tag tags
 
-    by : (b : Bool) → bytes_eq tag.key key ≡ b → (b && bytes_eq tag.value value) || has_value key value tags ≡ bytes_eq (if b then tag.value else text_of key tags) value
-    by true e = let one : bit (bytes_eq tag.key key) ≡ 1 = ap bit e in or_none (bytes_eq tag.value value) (has_value key value tags) (no_value key value tags (omega (arith, few, counted, one)))
-    by false e = let none : bit (bytes_eq tag.key key) ≡ 0 = ap bit e in has_text key value tags some (omega (arith, few, counted, none))
+    by : (b : Bool) → bytes_eq tag.key key ≡ b → (count_by (λ t. bytes_eq t.key key) tags ≤ 1 → has_value key value tags ≡ bytes_eq (text_of key tags) value) → (b && bytes_eq tag.value value) || has_value key value tags ≡ bytes_eq (if b then tag.value else text_of key tags) value
+    by true e rest = let one : bit (bytes_eq tag.key key) ≡ 1 = ap bit e in or_none (bytes_eq tag.value value) (has_value key value tags) (no_value key value tags (omega (arith, few, counted, one)))
+    by false e rest = let none : bit (bytes_eq tag.key key) ≡ 0 = ap bit e in rest (omega (arith, few, counted, none))
 
 -- a text is empty or a name
 named_text : (key : List ℕ) (tags : List Tag) → Named tags → (text_of key tags ≡ []) ⊎ IsName (text_of key tags)

@@ -27,8 +27,8 @@ abbrev pub changes_of : List Prepared → List IndexChange
 changes_of staged = map (λ one. one.change) staged
 
 -- An index has a content; its staged changes are ready to be made, and there is room to keep them for the log.
-pub record IsKept (lists : Listing) (staged : List Prepared) (pending room : ℕ) : Type 0 where
+pub record IsKept (lists : Listing) (staged : List Prepared) (pending capacity : ℕ) : Type 0 where
   pub pairs : List Pair
   pub holds : Holds pairs lists
   pub ready : AreReady lists staged
-  pub room : pending + length staged ≤ room
+  pub room : pending + length staged ≤ capacity

@@ -1,6 +1,7 @@
 use Rattle.std.proofs.Common.{sym, subst}
 use Rattle.point_model.specs.declared.part.Part.{Part}
 use Rattle.series_index.specs.Evaluation.{AreLists, with_part}
+use Rattle.series_index.proofs.StagingLemmas.{on_ok_map}
 use Rattle.series_index.proofs.matching.take_part.Goals as goal
 
 pub returns-in_ok-push-in-Test : goal.returns-in_ok-push-in-Test
