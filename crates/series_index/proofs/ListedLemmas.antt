@@ -1,7 +1,7 @@
 -- Which of a measurement's ids a term lists.
 use Rattle.std.proofs.Common.{◌≡◌, ◌≢◌, ℕ, ◌<◌, ◌≤◌, ◌&&◌, ◌||◌, Bool, true, false, not, nat_eq, List, [], ◌∷◌, length, Vec, Global, Result, Ok, Err, IfOk, ◌⊎◌, inl, inr, if◌then◌else◌, refl, sym, ap, ◌∙◌, subst, arith}
 use Rattle.std.specs.List.{AllByRecursion, filter, list_any}
-use Rattle.std.specs.List.Sorted.{IsNonDecreasing, IsStrictlySortedBy}
+use Rattle.std.specs.List.Sorted.{IsStrictlySortedBy}
 use Rattle.std.specs.Ordering.{nat_cmp, is_le, is_lt}
 use Rattle.std.specs.Str.{bytes_eq}
 use Rattle.std.specs.declared.alloc.AllocError.{AllocError}
@@ -9,7 +9,7 @@ use Rattle.std.specs.declared.cmp.Ordering.TheVariants.{Less}
 use Rattle.std.proofs.lemmas.Bool.{false≢true}
 use Rattle.std.proofs.lemmas.Cmp.{nat_cmp_total, tied_itself}
 use Rattle.std.proofs.lemmas.List.Kept.{IsStrictlySortedBy-filter}
-use Rattle.std.proofs.lemmas.Map.Keys.{le_from_is_le, non_decreasing_from_sorted}
+use Rattle.std.proofs.lemmas.Map.Keys.{le_from_is_le}
 use Rattle.tsdb_types.specs.Names.{IsName}
 use Rattle.tsdb_types.specs.Series.{IsSeriesText}
 use Rattle.point_model.specs.Conditions.{Condition, True, Ne, meets}
@@ -194,16 +194,6 @@ pub having_is : (r : Result (Vec ℕ Global) AllocError) (lists : Listing) (meas
     → IfOk r (λ v. v.items ≡ found) → IfOk r (λ v. (series_of : ℕ → List ℕ) (all : List ℕ) → Told series_of lists measurement all → v.items ≡ ids_with series_of key value all)
 having_is (Ok v) lists measurement key value found name are e = λ series_of all told. e ∙ value_ids series_of lists measurement all told key value found name (are told.pairs told.holds)
 having_is (Err x) lists measurement key value found name are e = tt
-
-pub having_one : (r : Result (Vec ℕ Global) AllocError) (lists : Listing) (measurement all key value text : List ℕ) → value ≡ text → IfOk r (λ v. (series_of : ℕ → List ℕ) (all : List ℕ) → Told series_of lists measurement all → v.items ≡ ids_with series_of key value all)
-    → Answers lists measurement all (λ series_of. ids_with series_of key text all) r
-having_one (Ok v) lists measurement all key value text is e = λ series_of told. e series_of all told ∙ ap (λ (t : List ℕ). ids_with series_of key t all) is
-having_one (Err x) lists measurement all key value text is e = tt
-
-pub lacking_one : (r : Result (Vec ℕ Global) AllocError) (lists : Listing) (measurement all key text : List ℕ) → [] ≡ text → Answers lists measurement all (λ series_of. ids_with series_of key [] all) r
-    → Answers lists measurement all (λ series_of. ids_with series_of key text all) r
-lacking_one (Ok v) lists measurement all key text is e = λ series_of told. e series_of told ∙ ap (λ (t : List ℕ). ids_with series_of key t all) is
-lacking_one (Err x) lists measurement all key text is e = tt
 
 -- the whole condition, of the content
 pub match_is : (r : Result (Vec ℕ Global) AllocError) (lists : Listing) (measurement all : List ℕ) (condition : Condition) → ((pairs : List Pair) → Holds pairs lists → AreIdsOf (is_of (Measurement measurement)) pairs all)

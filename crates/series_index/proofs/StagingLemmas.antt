@@ -1,12 +1,12 @@
 -- Changes that become ready one behind the other, are forgotten from the last on, and are made from the first on.
-use Rattle.std.proofs.Common.{◌≡◌, ℕ, suc, ◌+◌, ◌≤◌, List, [], ◌∷◌, ◌++◌, length, map, Result, Ok, Err, OnOk, OnErr, refl, sym, ap, ◌∙◌, subst, arith, append_assoc, append-nil}
+use Rattle.std.proofs.Common.{◌≡◌, ℕ, suc, ◌≤◌, List, [], ◌∷◌, ◌++◌, length, Result, Ok, Err, OnOk, OnErr, refl, sym, ap, ◌∙◌, subst, arith, append_assoc, append-nil}
 use Rattle.std.specs.List.{AllByRecursion}
 use Rattle.std.proofs.lemmas.List.{length-append}
 use Rattle.index_lists.specs.declared.change.IndexChange.{IndexChange}
 use Rattle.index_lists.specs.Listing.{Holds, Listing}
 use Rattle.index_lists.specs.Pairs.{MayChange, Pair, after, after_all}
 use Rattle.index_lists.specs.Ready.{AreReady, IsReady, Prepared, uses}
-use Rattle.series_index.specs.Index.{IsKept, changes_of}
+use Rattle.series_index.specs.Index.{changes_of}
 use Rattle.series_index.specs.Staging.{Stages, Unstages}
 
 pub on_ok_map : {T E P Q : Type 0} (r : Result T E) → (P → Q) → OnOk r P → OnOk r Q

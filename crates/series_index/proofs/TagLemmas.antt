@@ -1,16 +1,16 @@
 -- What the tags of a series tell of the terms that list it.
-use Rattle.std.proofs.Common.{◌≡◌, ◌≢◌, ℕ, zero, suc, ◌+◌, ◌<◌, ◌≤◌, ◌&&◌, ◌||◌, Bool, true, false, not, List, [], ◌∷◌, length, All, ◌⊎◌, inl, inr, if◌then◌else◌, refl, sym, ap, ◌∙◌, subst, arith}
-use Rattle.std.specs.List.{count_by, list_any}
+use Rattle.std.proofs.Common.{◌≡◌, ◌≢◌, ℕ, suc, ◌+◌, ◌≤◌, ◌&&◌, ◌||◌, Bool, true, false, not, List, [], ◌∷◌, length, All, ◌⊎◌, inl, inr, if◌then◌else◌, refl, sym, ap, ◌∙◌, subst, arith}
+use Rattle.std.specs.List.{count_by}
 use Rattle.std.specs.Str.{bytes_eq}
 use Rattle.std.proofs.lemmas.List.Sorted.{IsPermutation-refl}
 use Rattle.tsdb_types.specs.Names.{IsName}
-use Rattle.tsdb_types.specs.Series.{IsSeriesText, KeysDiffer}
+use Rattle.tsdb_types.specs.Series.{IsSeriesText}
 use Rattle.tsdb_types.specs.declared.tag.Tag.{Tag}
 use Rattle.tsdb_types.proofs.TagLemmas.{differ_from_ascend}
 use Rattle.point_model.specs.Tags.{tag_text, tags_in, text_of}
 use Rattle.point_model.proofs.TagLemmas.{tags-read}
 use Rattle.index_lists.specs.Terms.{has_key, has_value}
-use Rattle.index_lists.proofs.PairLemmas.{and_first, any_in, not_false, same_text, some_counted, text_same}
+use Rattle.index_lists.proofs.PairLemmas.{and_first, any_in, not_false, same_text, some_counted}
 use Rattle.index_lists.proofs.StepLemmas.{bit, count_cons}
 
 abbrev pub Named : List Tag → Type 0

@@ -1,5 +1,5 @@
 -- What does a contract see of an index, which content has it, and what is asked of that?
-use Rattle.std.specs.Prelude.{◌≡◌, ℕ, ◌+◌, ◌≤◌, Bool, ◌&&◌, List, length, map}
+use Rattle.std.specs.Prelude.{ℕ, ◌+◌, ◌≤◌, Bool, ◌&&◌, List, length, map}
 use Rattle.std.specs.Str.{bytes_eq}
 use Rattle.point_model.specs.Conditions.{Condition, meets}
 use Rattle.index_lists.specs.declared.change.IndexChange.{IndexChange}

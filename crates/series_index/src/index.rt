@@ -1,6 +1,6 @@
 use crate::among::is_among;
 use crate::matching::matching_ids;
-use crate::staging::{commit_all, stage_all, unstage_to};
+use crate::staging::{commit_all, drop_front, stage_all, unstage_to};
 use index_lists::{Heading, IndexChange, Lists, Staged, Term, measurement_of};
 use point_model::TagCond;
 use std::alloc::{AllocError, Global};
@@ -33,10 +33,11 @@ impl Model for SeriesIndex {
 }
 
 impl SeriesIndex {
-    ghost use Rattle.std.specs.Prelude.{◌≡◌, ◌++◌, [], List, IfOk, OnOk, OnErr};
+    ghost use Rattle.std.specs.Prelude.{◌≡◌, ◌≤◌, ◌++◌, [], List, drop, length, IfOk, OnOk, OnErr};
     ghost use Rattle.index_lists.specs.Listing.{AreIdsOf};
     ghost use Rattle.index_lists.specs.Names.{AreNamesOf};
     ghost use Rattle.index_lists.specs.Pairs.{Agrees, MayChange, Pair, after_all, is_in};
+    ghost use Rattle.index_lists.specs.Terms.{is_of};
     ghost use Rattle.series_index.specs.Index.{HasContent, is_match};
 
     /// An index without a pair. The seed of the hashes is one that clients don't know: they choose the names.
@@ -54,6 +55,9 @@ impl SeriesIndex {
     }
 
     /// Makes changes ready behind those that are: all memory that making them takes, and keeping them for the log. Changes no content.
+    ///
+    /// A record of the log gives two bytes to the length of a field, so that a field of 65,536 bytes or more would fit none. That isn't asked
+    /// here, where nothing is logged: who stages sees to it.
     pub fn stage(&mut self, changes: Vec<IndexChange>) -> Result<(), AllocError>
         ensures ok { OnOk result (self.new.staged ≡ self.old.staged ++ changes.items) }
         ensures err { OnErr result (self.new.staged ≡ self.old.staged) }
@@ -108,6 +112,14 @@ impl SeriesIndex {
         &self.pending
     }
 
+    /// Takes the first of the pending changes away: a log has them now. Takes no memory.
+    pub fn stored(&mut self, count: usize)
+        requires { count ≤ length self.old.pending }
+        ensures { self.new ≡ record self.old { pending = drop count self.old.pending } }
+    {
+        drop_front(&mut self.pending, count);
+    }
+
     /// Whether a series has points in a field. The id is that of this series alone.
     pub fn has(&self, id: u32, series: &SeriesKey, field: &Name) -> Result<bool, AllocError>
         ensures { IfOk result (λ there. (pairs : List Pair) → HasContent pairs self.now → Agrees pairs (record { id = id; series = series.now; field = field.now })
@@ -123,6 +135,13 @@ impl SeriesIndex {
         ensures { IfOk result (λ ids. (pairs : List Pair) → HasContent pairs self.now → AreIdsOf (is_match measurement.now tags.now) pairs ids.items) }
     {
         matching_ids(self.alloc, &self.lists, measurement, tags)
+    }
+
+    /// The ids of the series that a term lists, ascending. With the names under each heading they are what the file of an index has.
+    pub fn ids(&self, term: &Term) -> &[u32]
+        ensures { (pairs : List Pair) → HasContent pairs self.now → AreIdsOf (is_of term.now) pairs result.now }
+    {
+        self.lists.ids(term)
     }
 
     /// The names under a heading that some series has, each once and ascending by their bytes: the measurements; the fields or the keys of

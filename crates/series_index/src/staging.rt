@@ -1,5 +1,5 @@
 // Making changes ready, making them, and forgetting them, one by one.
-ghost use Rattle.std.specs.Prelude.{◌≡◌, ◌+◌, ◌<◌, ◌≤◌, ◌∷◌, ◌++◌, [], List, length, vec_len, vec_capacity, OnOk, OnErr};
+ghost use Rattle.std.specs.Prelude.{◌≡◌, ◌+◌, ◌<◌, ◌≤◌, ◌∷◌, ◌++◌, [], List, drop, length, vec_len, vec_capacity, OnOk, OnErr};
 ghost use Rattle.index_lists.specs.declared.change.IndexChange.{IndexChange};
 ghost use Rattle.index_lists.specs.Listing.{Holds};
 ghost use Rattle.index_lists.specs.Pairs.{MayChange, Pair, after_all};
@@ -81,4 +81,13 @@ fn push_within<T: Drop>(items: &mut Vec<T>, item: T)
     ensures capacity { vec_capacity items.old ≤ vec_capacity items.new }
 {
     let _ = items.push(item);
+}
+
+/// Takes the first items of a list away.
+pub fn drop_front<T: Drop>(items: &mut Vec<T>, count: usize)
+    requires { count ≤ length items.old.items }
+    ensures items { items.new.items ≡ drop count items.old.items }
+    ensures capacity { vec_capacity items.old ≤ vec_capacity items.new }
+{
+    let _ = items.drain(..count);
 }

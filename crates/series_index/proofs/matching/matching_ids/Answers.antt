@@ -1,4 +1,4 @@
-use Rattle.std.proofs.Common.{ℕ, List, subst}
+use Rattle.std.proofs.Common.{subst}
 use Rattle.index_lists.specs.declared.term.Term.{Term}
 use Rattle.index_lists.specs.declared.term.Term.TheVariants.{Measurement}
 use Rattle.index_lists.specs.Listing.{AreIdsOf}

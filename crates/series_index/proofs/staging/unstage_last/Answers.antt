@@ -1,6 +1,5 @@
-use Rattle.std.proofs.Common.{◌≡◌, ◌++◌, ◌∷◌, [], List, length, ap, arith, rules}
+use Rattle.std.proofs.Common.{◌≡◌, ◌++◌, ◌∷◌, [], length, ap, arith, rules}
 use Rattle.std.proofs.lemmas.List.{length-append}
-use Rattle.index_lists.specs.Ready.{Prepared}
 use Rattle.series_index.proofs.StagingLemmas.{unstages_one}
 use Rattle.series_index.proofs.staging.unstage_last.Goals as goal
 

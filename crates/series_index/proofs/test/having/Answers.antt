@@ -1,4 +1,4 @@
-use Rattle.std.proofs.Common.{◌≡◌, ℕ, List, IfOk, subst, rules}
+use Rattle.std.proofs.Common.{◌≡◌, IfOk, subst, rules}
 use Rattle.index_lists.specs.declared.term.Term.{Term}
 use Rattle.index_lists.specs.declared.term.Term.TheVariants.{TagValue}
 use Rattle.index_lists.specs.Listing.{AreIdsOf}

@@ -4,7 +4,7 @@ use Rattle.index_lists.specs.declared.term.Term.{Term}
 use Rattle.index_lists.specs.declared.term.Term.TheVariants.{Field}
 use Rattle.index_lists.specs.Listing.{AreIdsOf}
 use Rattle.index_lists.specs.Terms.{is_of}
-use Rattle.series_index.specs.Index.{HasContent, Index}
+use Rattle.series_index.specs.Index.{HasContent}
 use Rattle.series_index.proofs.ListedLemmas.{has_pair}
 use Rattle.series_index.proofs.index.SeriesIndex.has.Goals as goal
 

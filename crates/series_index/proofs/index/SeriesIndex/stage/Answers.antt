@@ -1,4 +1,4 @@
-use Rattle.std.proofs.Common.{◌≡◌, ◌≤◌, length, ap, ◌∙◌, arith}
+use Rattle.std.proofs.Common.{◌≡◌, length, ap, ◌∙◌, arith}
 use Rattle.series_index.specs.Index.{Index, changes_of}
 use Rattle.series_index.proofs.StagingLemmas.{forgotten}
 use Rattle.series_index.proofs.index.SeriesIndex.stage.Goals as goal

@@ -1,4 +1,4 @@
-use Rattle.std.proofs.Common.{◌≡◌, ℕ, length, sym, ap, subst, arith}
+use Rattle.std.proofs.Common.{sym, ap, subst, arith}
 use Rattle.series_index.specs.Index.{HasContent, Index, changes_of}
 use Rattle.series_index.proofs.StagingLemmas.{none_left}
 use Rattle.series_index.proofs.index.SeriesIndex.unstage.Goals as goal
