@@ -23,9 +23,6 @@ changes_behind (p ∷ ps) qs = ap (λ (l : List IndexChange). p.change ∷ l) (c
 
 -- ---- one behind the other
 
-pub stages_none : (lists : Listing) (ps : List Prepared) → Stages [] lists lists ps ps
-stages_none lists ps = record { added = []; behind = sym (append-nil ps); changes_are = refl; ready = λ r. r; content = λ pairs h. h }
-
 pub stages_then : (one other : List IndexChange) (l m n : Listing) (ps qs rs : List Prepared) → Stages one l m ps qs → Stages other m n qs rs → Stages (one ++ other) l n ps rs
 stages_then one other l m n ps qs rs s t = record {
   added = s.added ++ t.added;
@@ -34,13 +31,6 @@ stages_then one other l m n ps qs rs s t = record {
   ready = λ r. t.ready (s.ready r);
   content = λ pairs h. t.content pairs (s.content pairs h);
 }
-
-pub staged_are : (changes : List IndexChange) (l m : Listing) (ps qs : List Prepared) → Stages changes l m ps qs → changes_of qs ≡ changes_of ps ++ changes
-staged_are changes l m ps qs s = ap changes_of s.behind ∙ changes_behind ps s.added ∙ ap (λ (xs : List IndexChange). changes_of ps ++ xs) s.changes_are
-
-pub many_changes : (ps : List Prepared) → length (changes_of ps) ≡ length ps
-many_changes [] = refl
-many_changes (p ∷ ps) = ap suc (many_changes ps)
 
 -- ---- from the last on
 
@@ -58,17 +48,6 @@ last_ready lists ps p ready = record {
   each = last_each (IsReady lists) ps p ready.each;
   room = λ place listed at. let r = ready.room place listed at in let u = last_uses place ps p in omega (arith, r, u);
   few = let f = ready.few in let n = length-append ps (p ∷ []) in omega (arith, f, n);
-}
-
-pub unstages_none : (lists : Listing) (ps : List Prepared) → Unstages lists lists ps ps
-unstages_none lists ps = record { gone = []; front = sym (append-nil ps); ready = λ r. r; content = λ pairs h. h }
-
-pub unstages_then : (l m n : Listing) (ps qs rs : List Prepared) → Unstages l m ps qs → Unstages m n qs rs → Unstages l n ps rs
-unstages_then l m n ps qs rs s t = record {
-  gone = t.gone ++ s.gone;
-  front = s.front ∙ ap (λ (xs : List Prepared). xs ++ s.gone) t.front ∙ append_assoc rs t.gone s.gone;
-  ready = λ r. t.ready (s.ready r);
-  content = λ pairs h. t.content pairs (s.content pairs h);
 }
 
 pub unstages_one : (l m : Listing) (ps qs : List Prepared) (p : Prepared) → ps ≡ qs ++ p ∷ [] → ((prepared : List Prepared) → AreReady l (p ∷ prepared) → AreReady m prepared) → ((pairs : List Pair) → Holds pairs l → Holds pairs m)
@@ -107,9 +86,6 @@ pub none_left : (ps : List Prepared) → length ps ≡ 0 → ps ≡ []
 none_left [] e = refl
 none_left (p ∷ ps) e = absurd (omega (arith, e))
 
-pub none_ready : (lists : Listing) → AreReady lists []
-none_ready lists = record { each = tt; room = λ place listed at. omega arith; few = omega arith }
-
 -- ---- from the first on
 
 -- what is left to be made of pairs, and what they become
@@ -119,9 +95,6 @@ pub record Left (changes : List IndexChange) (pairs : List Pair) (lists : Listin
   pub may : MayChange mid changes
   pub becomes : after_all changes mid ≡ wanted
 
-pub left_first : (changes : List IndexChange) (pairs : List Pair) (lists : Listing) → Holds pairs lists → MayChange pairs changes → Left changes pairs lists (after_all changes pairs)
-left_first changes pairs lists holds may = record { mid = pairs; holds = holds; may = may; becomes = refl }
-
 pub left_behind : (change : IndexChange) (changes : List IndexChange) (pairs : List Pair) (old new : Listing) (wanted : List Pair) → Left (change ∷ changes) pairs old wanted
     → ((mid : List Pair) → Holds mid old → MayChange mid (change ∷ changes) → Holds (after change mid) new) → Left changes pairs new wanted
 left_behind change changes pairs old new wanted left made = record {
@@ -130,6 +103,3 @@ left_behind change changes pairs old new wanted left made = record {
   may = left.may.1;
   becomes = left.becomes;
 }
-
-pub left_none : (pairs : List Pair) (lists : Listing) (wanted : List Pair) → Left [] pairs lists wanted → Holds wanted lists
-left_none pairs lists wanted left = subst (λ (ps : List Pair). Holds ps lists) left.becomes left.holds
