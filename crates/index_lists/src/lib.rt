@@ -16,4 +16,5 @@ pub use change::IndexChange;
 pub use heading::Heading;
 pub use lists::Lists;
 pub use staged::Staged;
+pub use tags::measurement_of;
 pub use term::Term;

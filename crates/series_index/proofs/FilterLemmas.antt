@@ -1,7 +1,7 @@
 -- Lists that are picked from one list.
-use Rattle.std.proofs.Common.{◌≡◌, ℕ, suc, ◌<◌, ◌≤◌, ◌&&◌, ◌||◌, Bool, true, false, not, nat_eq, List, [], ◌∷◌, length, get_or, Result, Ok, Err, IfOk, ◌⊎◌, inl, inr, if◌then◌else◌, refl, sym, ap, ◌∙◌, arith}
+use Rattle.std.proofs.Common.{◌≡◌, ℕ, suc, ◌<◌, ◌≤◌, ◌&&◌, ◌||◌, Bool, true, false, not, nat_eq, List, [], ◌∷◌, length, get_or, Result, Ok, Err, IfOk, ◌⊎◌, inl, inr, if◌then◌else◌, refl, sym, ap, ◌∙◌, subst, arith}
 use Rattle.std.specs.List.{AllByRecursion, filter}
-use Rattle.std.specs.List.Sorted.{IsNonDecreasing, IsBinarySearchResult}
+use Rattle.std.specs.List.Sorted.{IsNonDecreasing, IsBinarySearchResult, IsStrictlySortedBy}
 use Rattle.std.specs.Ordering.{nat_cmp}
 use Rattle.std.specs.declared.vec.Vec.{Vec}
 use Rattle.std.specs.declared.alloc.Global.{Global}
@@ -9,7 +9,9 @@ use Rattle.std.specs.declared.alloc.AllocError.{AllocError}
 use Rattle.std.proofs.lemmas.Bool.{cases_lt}
 use Rattle.std.proofs.lemmas.Bool.Decides.{nat_tests}
 use Rattle.std.proofs.lemmas.List.Sorted.{searched}
-use Rattle.index_file.specs.Contents.{has}
+use Rattle.std.proofs.lemmas.List.Kept.{IsNonDecreasingBy-filter}
+use Rattle.std.proofs.lemmas.Map.Keys.{non_decreasing_from_sorted}
+use Rattle.series_index.specs.Matching.{has}
 
 -- ---- an id that a search doesn't find
 
@@ -121,3 +123,8 @@ pub both_turned : (r : Result (Vec ℕ Global) AllocError) (first second : List 
     → IfOk r (λ ids. (all : List ℕ) (is also : ℕ → Bool) → first ≡ filter is all → second ≡ filter also all → ids.items ≡ filter (λ id. is id && also id) all)
 both_turned (Ok v) first second e = λ all is also a b. e ∙ ap (λ (l : List ℕ). filter (has l) second) a ∙ ap (filter (has (filter is all))) b ∙ among_turned is also all
 both_turned (Err x) first second e = tt
+
+-- ---- lists that are picked ascend
+
+pub picked_ascend : (all : List ℕ) (is : ℕ → Bool) (ids : List ℕ) → IsStrictlySortedBy nat_cmp all → ids ≡ filter is all → IsNonDecreasing ids
+picked_ascend all is ids up e = subst IsNonDecreasing (sym e) (IsNonDecreasingBy-filter (λ x. x) is all (non_decreasing_from_sorted all up))

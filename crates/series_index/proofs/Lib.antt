@@ -1,5 +1,6 @@
 mod FilterLemmas
 mod MergeLemmas
-mod FindLemmas
-mod TagLemmas
 mod StackLemmas
+mod TagLemmas
+mod ListedLemmas
+mod StagingLemmas

@@ -5,8 +5,6 @@ use Rattle.std.specs.List.Sorted.{IsNonDecreasing, IsStrictlySortedBy}
 use Rattle.std.specs.Ordering.{nat_cmp}
 use Rattle.std.specs.declared.alloc.AllocError.{AllocError}
 use Rattle.std.proofs.lemmas.List.{append_assoc, append-nil, length-append, same_from_push}
-use Rattle.index_file.specs.declared.content.MeasurementIds.{MeasurementIds}
-use Rattle.index_file.specs.Contents.{IsMeasurement}
 use Rattle.point_model.specs.Conditions.{Condition, True, Eq, Ne, And, Or, meets}
 use Rattle.point_model.specs.Flat.{joined, parts_of}
 use Rattle.point_model.specs.declared.part.Join.{Join}
@@ -14,21 +12,21 @@ use Rattle.point_model.specs.declared.part.Join.TheVariants as join
 use Rattle.point_model.specs.declared.part.Part.{Part}
 use Rattle.series_index.specs.Matching.{matching}
 use Rattle.series_index.specs.Evaluation.{AreLists, conditions_in, with_join, with_part}
-use Rattle.series_index.proofs.TagLemmas.{picked_ascend}
+use Rattle.series_index.proofs.FilterLemmas.{picked_ascend}
 
 abbrev pub Joins : Join → List ℕ → List ℕ → Vec ℕ Global → Type 0
 Joins j first second v =
-    (series_of : ℕ → List ℕ) (one other : Condition) (measurement : MeasurementIds) → IsMeasurement measurement → first ≡ matching series_of one measurement.ids → second ≡ matching series_of other measurement.ids
-    → v.items ≡ matching series_of (joined j one other) measurement.ids
+    (series_of : ℕ → List ℕ) (one other : Condition) (all : List ℕ) → IsStrictlySortedBy nat_cmp all → first ≡ matching series_of one all → second ≡ matching series_of other all
+    → v.items ≡ matching series_of (joined j one other) all
 
 pub and_of : (r : Result (Vec ℕ Global) AllocError) (first second : List ℕ) → IfOk r (λ ids. (all : List ℕ) (is also : ℕ → Bool) → first ≡ filter is all → second ≡ filter also all → ids.items ≡ filter (λ id. is id && also id) all)
     → IfOk r (Joins join.And first second)
-and_of (Ok v) first second e = λ series_of one other m good a b. e m.ids (λ id. meets one (series_of id)) (λ id. meets other (series_of id)) a b
+and_of (Ok v) first second e = λ series_of one other all up a b. e all (λ id. meets one (series_of id)) (λ id. meets other (series_of id)) a b
 and_of (Err x) first second e = tt
 
 pub or_of : (r : Result (Vec ℕ Global) AllocError) (first second : List ℕ)
     → IfOk r (λ ids. (all : List ℕ) (is also : ℕ → Bool) → IsStrictlySortedBy nat_cmp all → first ≡ filter is all → second ≡ filter also all → ids.items ≡ filter (λ id. is id || also id) all) → IfOk r (Joins join.Or first second)
-or_of (Ok v) first second e = λ series_of one other m good a b. e m.ids (λ id. meets one (series_of id)) (λ id. meets other (series_of id)) good.ids.counted.ascending a b
+or_of (Ok v) first second e = λ series_of one other all up a b. e all (λ id. meets one (series_of id)) (λ id. meets other (series_of id)) up a b
 or_of (Err x) first second e = tt
 
 -- the last list is that of the first condition
@@ -52,20 +50,20 @@ lists_pop series_of ids (c ∷ cs) lists before last are e =
     }
 
 -- the lists of a join's sides ascend
-pub sides_ascend : (series_of : ℕ → List ℕ) (m : MeasurementIds) (conditions : List Condition) (lists before below : List (Vec ℕ Global)) (first second : Vec ℕ Global) → IsMeasurement m → AreLists series_of m.ids conditions lists
+pub sides_ascend : (series_of : ℕ → List ℕ) (all : List ℕ) (conditions : List Condition) (lists before below : List (Vec ℕ Global)) (first second : Vec ℕ Global) → IsStrictlySortedBy nat_cmp all → AreLists series_of all conditions lists
     → lists ≡ before ++ first ∷ [] → before ≡ below ++ second ∷ [] → IsNonDecreasing first.items × IsNonDecreasing second.items
-sides_ascend series_of m conditions lists before below first second good are e f =
-    let one = lists_pop series_of m.ids conditions lists before first are e in
-    let two = lists_pop series_of m.ids one.others before below second one.rest f in
-    (picked_ascend m (λ id. meets one.condition (series_of id)) first.items good one.is, picked_ascend m (λ id. meets two.condition (series_of id)) second.items good two.is)
+sides_ascend series_of all conditions lists before below first second good are e f =
+    let one = lists_pop series_of all conditions lists before first are e in
+    let two = lists_pop series_of all one.others before below second one.rest f in
+    (picked_ascend all (λ id. meets one.condition (series_of id)) first.items good one.is, picked_ascend all (λ id. meets two.condition (series_of id)) second.items good two.is)
 
-pub join_one : (series_of : ℕ → List ℕ) (m : MeasurementIds) (j : Join) (conditions : List Condition) (lists before below new : List (Vec ℕ Global)) (first second ids : Vec ℕ Global) → IsMeasurement m → AreLists series_of m.ids conditions lists
-    → lists ≡ before ++ first ∷ [] → before ≡ below ++ second ∷ [] → new ≡ below ++ ids ∷ [] → Joins j first.items second.items ids → AreLists series_of m.ids (with_join j conditions) new
-join_one series_of m j conditions lists before below new first second ids good are e f g joins =
-    let one = lists_pop series_of m.ids conditions lists before first are e in
-    let two = lists_pop series_of m.ids one.others before below second one.rest f in
-    let all : conditions ≡ one.condition ∷ two.condition ∷ two.others = one.are ∙ ap (λ (cs : List Condition). one.condition ∷ cs) two.are in
-    subst (λ (cs : List Condition). AreLists series_of m.ids (with_join j cs) new) (sym all) (below, ids, g, joins series_of one.condition two.condition m good one.is two.is, two.rest)
+pub join_one : (series_of : ℕ → List ℕ) (all : List ℕ) (j : Join) (conditions : List Condition) (lists before below new : List (Vec ℕ Global)) (first second ids : Vec ℕ Global) → IsStrictlySortedBy nat_cmp all → AreLists series_of all conditions lists
+    → lists ≡ before ++ first ∷ [] → before ≡ below ++ second ∷ [] → new ≡ below ++ ids ∷ [] → Joins j first.items second.items ids → AreLists series_of all (with_join j conditions) new
+join_one series_of all j conditions lists before below new first second ids good are e f g joins =
+    let one = lists_pop series_of all conditions lists before first are e in
+    let two = lists_pop series_of all one.others before below second one.rest f in
+    let whole : conditions ≡ one.condition ∷ two.condition ∷ two.others = one.are ∙ ap (λ (cs : List Condition). one.condition ∷ cs) two.are in
+    subst (λ (cs : List Condition). AreLists series_of all (with_join j cs) new) (sym whole) (below, ids, g, joins series_of one.condition two.condition all good one.is two.is, two.rest)
 
 -- no list, or one alone, is no two sides
 pub no_first : (series_of : ℕ → List ℕ) (ids : List ℕ) (j : Join) (conditions : List Condition) (lists new : List (Vec ℕ Global)) → lists ≡ [] → new ≡ [] → AreLists series_of ids conditions lists → AreLists series_of ids (with_join j conditions) new

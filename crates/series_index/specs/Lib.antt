@@ -1,3 +1,5 @@
+pub mod Index
 pub mod Matching
 pub mod Evaluation
 pub mod Merging
+pub mod Staging

@@ -3,7 +3,7 @@ ghost use Rattle.std.specs.Prelude.{◌≡◌, ◌<◌, ◌↔◌, ◌&&◌, ℕ
 ghost use Rattle.std.specs.List.{filter};
 ghost use Rattle.std.specs.List.Sorted.{IsStrictlySortedBy, IsNonDecreasing};
 ghost use Rattle.std.specs.Ordering.{nat_cmp};
-ghost use Rattle.index_file.specs.Contents.{has};
+ghost use Rattle.series_index.specs.Matching.{has};
 
 use std::alloc::{AllocError, Global};
 
@@ -48,7 +48,8 @@ pub fn without(alloc: Global, ids: &[u32], others: &[u32]) -> Result<Vec<u32>, A
     Ok(left)
 }
 
-fn is_among(id: u32, others: &[u32]) -> bool
+/// Whether the list has the id, by binary search.
+pub fn is_among(id: u32, others: &[u32]) -> bool
     requires { IsNonDecreasing others.now }
     ensures { result ≡ has others.now id }
 {

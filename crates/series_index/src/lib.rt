@@ -1,10 +1,11 @@
-//! Which series of a measurement meet a condition on tags, by the lists of ids that an index holds.
+//! Which series have points in which fields, and which series of a measurement meet a condition on tags: the index, by lists of ids.
 #![tactic(auto)]
 
 mod among;
-mod find;
+mod index;
 mod matching;
 mod merge;
+mod staging;
 mod test;
 
-pub use matching::matching_ids;
+pub use index::SeriesIndex;

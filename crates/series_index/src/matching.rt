@@ -1,29 +1,47 @@
 ghost use Rattle.std.specs.Prelude.{◌≡◌, ℕ, List, IfOk, OnOk};
 ghost use Rattle.std.specs.List.{filter};
-ghost use Rattle.std.specs.List.Sorted.{IsNonDecreasing};
-ghost use Rattle.index_file.specs.Contents.{IsMeasurement};
-ghost use Rattle.index_file.specs.declared.content.MeasurementIds.{MeasurementIds};
+ghost use Rattle.std.specs.List.Sorted.{IsNonDecreasing, IsStrictlySortedBy};
+ghost use Rattle.std.specs.Ordering.{nat_cmp};
+ghost use Rattle.index_lists.specs.Listing.{AreIdsOf, Holds};
+ghost use Rattle.index_lists.specs.Pairs.{Pair};
 ghost use Rattle.point_model.specs.Conditions.{Condition};
 ghost use Rattle.point_model.specs.Flat.{joined};
-ghost use Rattle.series_index.specs.Matching.{TagsTell, matching};
+ghost use Rattle.series_index.specs.Index.{is_match};
+ghost use Rattle.series_index.specs.Matching.{Told, matching};
 ghost use Rattle.series_index.specs.Evaluation.{AreLists, with_join, with_part};
 
 use crate::among::both;
 use crate::merge::either;
 use crate::test::tested;
-use index_file::MeasurementIds;
+use index_lists::{Lists, Term};
 use point_model::{Join, Part, TagCond};
 use std::alloc::{AllocError, Global};
+use tsdb_types::Name;
 
 /// The ids of the series of a measurement that meet a condition, ascending.
 pub fn matching_ids(
     alloc: Global,
-    measurement: &MeasurementIds,
+    lists: &Lists,
+    measurement: &Name,
     tags: &TagCond,
 ) -> Result<Vec<u32>, AllocError>
-    requires good { IsMeasurement measurement.now }
-    requires told { (series_of : ℕ → List ℕ) × TagsTell series_of measurement.now }
-    ensures { IfOk result (λ ids. (series_of : ℕ → List ℕ) → TagsTell series_of measurement.now → ids.items ≡ matching series_of tags.now measurement.now.ids) }
+    requires { (pairs : List Pair) × Holds pairs lists.now }
+    ensures { IfOk result (λ ids. (pairs : List Pair) → Holds pairs lists.now → AreIdsOf (is_match measurement.now tags.now) pairs ids.items) }
+{
+    let term = Term::Measurement(measurement.carry()?);
+    evaluated(alloc, lists, measurement, lists.ids(&term), tags)
+}
+
+// Those of the ids of a measurement whose series meet the condition.
+fn evaluated(
+    alloc: Global,
+    lists: &Lists,
+    measurement: &Name,
+    all: &[u32],
+    tags: &TagCond,
+) -> Result<Vec<u32>, AllocError>
+    requires { (series_of : ℕ → List ℕ) × Told series_of lists.now measurement.now all.now }
+    ensures { IfOk result (λ ids. (series_of : ℕ → List ℕ) → Told series_of lists.now measurement.now all.now → ids.items ≡ matching series_of tags.now all.now) }
 {
     let parts = tags.parts();
     let mut waiting = Vec::new(alloc);
@@ -31,7 +49,7 @@ pub fn matching_ids(
     while place > 0 {
         place -= 1;
         let (_, part) = &parts[place];
-        take_part(alloc, measurement, part, &mut waiting)?;
+        take_part(alloc, lists, measurement, all, part, &mut waiting)?;
     }
     match waiting.pop() {
         Some(ids) => Ok(ids),
@@ -42,37 +60,31 @@ pub fn matching_ids(
 // Puts the list of a test behind the others, or that of a join in the place of its two sides'.
 fn take_part(
     alloc: Global,
-    measurement: &MeasurementIds,
+    lists: &Lists,
+    measurement: &Name,
+    all: &[u32],
     part: &Part,
     waiting: &mut Vec<Vec<u32>>,
 ) -> Result<(), AllocError>
-    requires good { IsMeasurement measurement.now }
-    requires told { (series_of : ℕ → List ℕ) × TagsTell series_of measurement.now }
-    requires lists { (conditions : List Condition) × ((series_of : ℕ → List ℕ) → TagsTell series_of measurement.now → AreLists series_of measurement.now.ids conditions waiting.old.items) }
-    ensures { OnOk result ((series_of : ℕ → List ℕ) → TagsTell series_of measurement.now → (conditions : List Condition)
-        → AreLists series_of measurement.now.ids conditions waiting.old.items → AreLists series_of measurement.now.ids (with_part part.now conditions) waiting.new.items) }
+    requires told { (series_of : ℕ → List ℕ) × Told series_of lists.now measurement.now all.now }
+    requires lists { (conditions : List Condition) × ((series_of : ℕ → List ℕ) → Told series_of lists.now measurement.now all.now → AreLists series_of all.now conditions waiting.old.items) }
+    ensures { OnOk result ((series_of : ℕ → List ℕ) → Told series_of lists.now measurement.now all.now → (conditions : List Condition)
+        → AreLists series_of all.now conditions waiting.old.items → AreLists series_of all.now (with_part part.now conditions) waiting.new.items) }
 {
     match part {
         Part::Test(test) => {
-            let ids = tested(alloc, measurement, test)?;
+            let ids = tested(alloc, lists, measurement, all, test)?;
             waiting.push(ids)?;
             Ok(())
         }
-        Part::Join(join) => take_join(alloc, measurement, *join, waiting),
+        Part::Join(join) => take_join(alloc, *join, waiting),
     }
 }
 
-fn take_join(
-    alloc: Global,
-    measurement: &MeasurementIds,
-    join: Join,
-    waiting: &mut Vec<Vec<u32>>,
-) -> Result<(), AllocError>
-    requires good { IsMeasurement measurement.now }
-    requires told { (series_of : ℕ → List ℕ) × TagsTell series_of measurement.now }
-    requires lists { (conditions : List Condition) × ((series_of : ℕ → List ℕ) → TagsTell series_of measurement.now → AreLists series_of measurement.now.ids conditions waiting.old.items) }
-    ensures { OnOk result ((series_of : ℕ → List ℕ) → TagsTell series_of measurement.now → (conditions : List Condition)
-        → AreLists series_of measurement.now.ids conditions waiting.old.items → AreLists series_of measurement.now.ids (with_join join conditions) waiting.new.items) }
+fn take_join(alloc: Global, join: Join, waiting: &mut Vec<Vec<u32>>) -> Result<(), AllocError>
+    requires { (series_of : ℕ → List ℕ) × (all : List ℕ) × (conditions : List Condition) × IsStrictlySortedBy nat_cmp all × AreLists series_of all conditions waiting.old.items }
+    ensures { OnOk result ((series_of : ℕ → List ℕ) (all : List ℕ) (conditions : List Condition) → IsStrictlySortedBy nat_cmp all
+        → AreLists series_of all conditions waiting.old.items → AreLists series_of all (with_join join conditions) waiting.new.items) }
 {
     let Some(first) = waiting.pop() else {
         return Ok(());
@@ -93,8 +105,8 @@ fn joined_ids(
 ) -> Result<Vec<u32>, AllocError>
     requires first { IsNonDecreasing first.now }
     requires second { IsNonDecreasing second.now }
-    ensures { IfOk result (λ ids. (series_of : ℕ → List ℕ) (one other : Condition) (measurement : MeasurementIds) → IsMeasurement measurement
-        → first.now ≡ matching series_of one measurement.ids → second.now ≡ matching series_of other measurement.ids → ids.items ≡ matching series_of (joined join one other) measurement.ids) }
+    ensures { IfOk result (λ ids. (series_of : ℕ → List ℕ) (one other : Condition) (all : List ℕ) → IsStrictlySortedBy nat_cmp all
+        → first.now ≡ matching series_of one all → second.now ≡ matching series_of other all → ids.items ≡ matching series_of (joined join one other) all) }
 {
     match join {
         Join::And => both(alloc, first, second),

@@ -1,33 +1,31 @@
 // The series of a measurement that pass a test.
-ghost use Rattle.std.specs.Prelude.{◌≡◌, ℕ, List, not, IfOk};
-ghost use Rattle.std.specs.List.{filter};
-ghost use Rattle.index_file.specs.Contents.{AreNamed, IsMeasurement, some_has};
+ghost use Rattle.std.specs.Prelude.{◌≡◌, ℕ, List, [], IfOk};
+ghost use Rattle.tsdb_types.specs.Names.{IsName};
 ghost use Rattle.point_model.specs.Flat.{condition_of};
-ghost use Rattle.series_index.specs.Matching.{TagsTell, ids_with, matching};
+ghost use Rattle.series_index.specs.Matching.{Told, ids_with, matching};
 
 use crate::among::without;
-use crate::find::{ids_of, lists_of};
-use index_file::{MeasurementIds, NameIds};
+use index_lists::{Lists, Term};
 use point_model::{TagTest, TagText};
 use std::alloc::{AllocError, Global};
-use tsdb_types::Name;
+use tsdb_types::{Name, NameFault};
 
-/// The ids of the series of the measurement that pass the test.
+/// Those of the ids of a measurement whose series pass the test.
 pub fn tested(
     alloc: Global,
-    measurement: &MeasurementIds,
+    lists: &Lists,
+    measurement: &Name,
+    all: &[u32],
     test: &TagTest,
 ) -> Result<Vec<u32>, AllocError>
-    requires good { IsMeasurement measurement.now }
-    requires told { (series_of : ℕ → List ℕ) × TagsTell series_of measurement.now }
-    ensures { IfOk result (λ ids. (series_of : ℕ → List ℕ) → TagsTell series_of measurement.now → ids.items ≡ matching series_of (condition_of test.now) measurement.now.ids) }
+    requires { (series_of : ℕ → List ℕ) × Told series_of lists.now measurement.now all.now }
+    ensures { IfOk result (λ ids. (series_of : ℕ → List ℕ) → Told series_of lists.now measurement.now all.now → ids.items ≡ matching series_of (condition_of test.now) all.now) }
 {
-    let all = measurement.ids.as_slice();
     match test {
         TagTest::True => all.to_vec(alloc),
-        TagTest::Eq(key, text) => with_text(alloc, measurement, key, text),
+        TagTest::Eq(key, text) => with_text(alloc, lists, measurement, all, key, text),
         TagTest::Ne(key, text) => {
-            let ids = with_text(alloc, measurement, key, text)?;
+            let ids = with_text(alloc, lists, measurement, all, key, text)?;
             without(alloc, all, &ids)
         }
     }
@@ -36,30 +34,53 @@ pub fn tested(
 // Those whose tag with this key has this text; a tag that a series lacks has the empty text.
 fn with_text(
     alloc: Global,
-    measurement: &MeasurementIds,
+    lists: &Lists,
+    measurement: &Name,
+    all: &[u32],
     key: &Name,
     text: &TagText,
 ) -> Result<Vec<u32>, AllocError>
-    requires good { IsMeasurement measurement.now }
-    requires told { (series_of : ℕ → List ℕ) × TagsTell series_of measurement.now }
-    ensures { IfOk result (λ ids. (series_of : ℕ → List ℕ) → TagsTell series_of measurement.now → ids.items ≡ ids_with series_of key.now text.now measurement.now.ids) }
+    requires { (series_of : ℕ → List ℕ) × Told series_of lists.now measurement.now all.now }
+    ensures { IfOk result (λ ids. (series_of : ℕ → List ℕ) → Told series_of lists.now measurement.now all.now → ids.items ≡ ids_with series_of key.now text.now all.now) }
 {
-    let values = lists_of(measurement.tags.as_slice(), key.as_str().as_bytes());
-    let text = text.as_str().as_bytes();
-    if text.is_empty() {
-        return lacking(alloc, measurement.ids.as_slice(), values);
+    let text = text.as_str();
+    if text.as_bytes().is_empty() {
+        return lacking(alloc, lists, measurement, all, key);
     }
-    ids_of(values, text).to_vec(alloc)
+    match Name::new(alloc, text) {
+        Ok(value) => having(alloc, lists, measurement, key, value),
+        // No tag has a value that is no name.
+        Err(NameFault::BadName) => Ok(Vec::new(alloc)),
+        Err(NameFault::Memory) => Err(AllocError),
+    }
 }
 
-// The ids that no value has.
-fn lacking(alloc: Global, ids: &[u32], values: &[NameIds]) -> Result<Vec<u32>, AllocError>
-    ensures { IfOk result (λ left. left.items ≡ filter (λ id. not (some_has values.now id)) ids.now) }
+// Those without the tag.
+fn lacking(
+    alloc: Global,
+    lists: &Lists,
+    measurement: &Name,
+    all: &[u32],
+    key: &Name,
+) -> Result<Vec<u32>, AllocError>
+    requires { (series_of : ℕ → List ℕ) × Told series_of lists.now measurement.now all.now }
+    ensures { IfOk result (λ ids. (series_of : ℕ → List ℕ) → Told series_of lists.now measurement.now all.now → ids.items ≡ ids_with series_of key.now [] all.now) }
 {
-    let mut tagged = Vec::new(alloc);
-    for value in values {
-        tagged.extend_from_slice(value.ids.as_slice())?;
-    }
-    tagged.sort_unstable();
-    without(alloc, ids, &tagged)
+    let term = Term::TagKey(measurement.carry()?, key.carry()?);
+    without(alloc, all, lists.ids(&term))
+}
+
+// Those whose tag has the value.
+fn having(
+    alloc: Global,
+    lists: &Lists,
+    measurement: &Name,
+    key: &Name,
+    value: Name,
+) -> Result<Vec<u32>, AllocError>
+    requires { IsName value }
+    ensures { IfOk result (λ ids. (series_of : ℕ → List ℕ) (all : List ℕ) → Told series_of lists.now measurement.now all → ids.items ≡ ids_with series_of key.now value all) }
+{
+    let term = Term::TagValue(measurement.carry()?, key.carry()?, value);
+    lists.ids(&term).to_vec(alloc)
 }

@@ -1,6 +1,6 @@
 use Rattle.std.proofs.Common.{◌≡◌, ℕ, not, take}
 use Rattle.std.specs.List.{filter}
-use Rattle.index_file.specs.Contents.{has}
+use Rattle.series_index.specs.Matching.{has}
 use Rattle.series_index.proofs.among.without.Given as goal
 
 -- those of the ids so far

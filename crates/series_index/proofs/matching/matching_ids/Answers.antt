@@ -1,22 +1,21 @@
-use Rattle.std.proofs.Common.{◌≡◌, [], ◌∷◌, ◌++◌, drop, arith, rules}
-use Rattle.series_index.specs.Evaluation.{conditions_in}
-use Rattle.series_index.proofs.StackLemmas.{at_end, last_list, some_list}
+use Rattle.std.proofs.Common.{subst}
+use Rattle.index_lists.specs.declared.term.Term.{Term}
+use Rattle.index_lists.specs.declared.term.Term.TheVariants.{Measurement}
+use Rattle.index_lists.specs.Listing.{AreIdsOf}
+use Rattle.index_lists.specs.Terms.{is_of}
+use Rattle.series_index.specs.Matching.{series_in}
+use Rattle.series_index.proofs.ListedLemmas.{match_is, told_by}
 use Rattle.series_index.proofs.matching.matching_ids.Goals as goal
 
-pub take_part-requires-clause-lists : goal.take_part-requires-clause-lists
-take_part-requires-clause-lists c = (conditions_in (drop c.loop-place.place c.parts-parts.result.now), c.loop-place.invariant.1)
-
-pub returns-in-Some : goal.returns-in-Some
-returns-in-Some c series_of told =
-    let zero : c.loop-place.place ≡ 0 = omega (arith, c.loop-place-test.false) in
-    let popped : c.loop-place.waiting.items ≡ c.pop.new.self.items ++ c.in-Some.ids ∷ [] = search rules in
-    last_list series_of c.args.measurement.now.ids (conditions_in (drop c.loop-place.place c.parts-parts.result.now)) c.args.tags.now c.loop-place.waiting.items c.pop.new.self.items c.in-Some.ids
-    (at_end c.parts-parts.result.now c.args.tags.now c.loop-place.place zero c.parts-parts.ensures) (c.loop-place.invariant.1 series_of told) popped
+pub evaluated-requires : goal.evaluated-requires
+evaluated-requires c =
+    let asked = c.requires in (
+      series_in asked.0,
+      told_by asked.0 c.args.lists.now c.args.measurement.now c.ids.result.now asked.1
+          (subst (λ (t : Term). AreIdsOf (is_of t) asked.0 c.ids.result.now) (λ i. Measurement (c.in_ok-carry.ensures i)) (c.ids.ensures asked.0 asked.1)),
+    )
 
 pub returns : goal.returns
-returns c series_of told =
-    let zero : c.loop-place.place ≡ 0 = omega (arith, c.loop-place-test.false) in
-    let none : c.loop-place.waiting.items ≡ [] = search rules in
-    absurd
-    (some_list series_of c.args.measurement.now.ids (conditions_in (drop c.loop-place.place c.parts-parts.result.now)) c.args.tags.now c.loop-place.waiting.items
-    (at_end c.parts-parts.result.now c.args.tags.now c.loop-place.place zero c.parts-parts.ensures) (c.loop-place.invariant.1 series_of told) none)
+returns c =
+    match_is c.evaluated.result c.args.lists.now c.args.measurement.now c.ids.result.now c.args.tags.now
+    (λ pairs holds. subst (λ (t : Term). AreIdsOf (is_of t) pairs c.ids.result.now) (λ i. Measurement (c.in_ok-carry.ensures i)) (c.ids.ensures pairs holds)) c.evaluated.ensures

@@ -1,15 +1,18 @@
-use Rattle.std.proofs.Common.{◌≡◌, ℕ, List, subst, sym, ap, ◌∙◌}
-use Rattle.std.specs.List.Sorted.{IsNonDecreasing, IsPermutation}
-use Rattle.std.proofs.lemmas.List.{take_all}
-use Rattle.std.proofs.lemmas.List.Sorted.{IsNonDecreasingBy-from_sort}
-use Rattle.series_index.proofs.TagLemmas.{all_ids, lacking_is}
+use Rattle.std.proofs.Common.{subst}
+use Rattle.std.proofs.lemmas.Map.Keys.{non_decreasing_from_sorted}
+use Rattle.index_lists.specs.declared.term.Term.{Term}
+use Rattle.index_lists.specs.declared.term.Term.TheVariants.{TagKey}
+use Rattle.index_lists.specs.Listing.{AreIdsOf}
+use Rattle.index_lists.specs.Terms.{is_of}
+use Rattle.series_index.proofs.ListedLemmas.{lacking_is}
 use Rattle.series_index.proofs.test.lacking.Goals as goal
 
 pub without-requires : goal.without-requires
-without-requires c = subst (λ (l : List ℕ). IsNonDecreasing l) (sym c.deref.ensures.value) (IsNonDecreasingBy-from_sort (λ (x : ℕ). x) c.sort_unstable.new.self.items c.sort_unstable.ensures.sorted)
+without-requires c =
+    let told = c.requires.1 in
+    non_decreasing_from_sorted c.ids.result.now (c.ids.ensures told.pairs told.holds).ascending
 
 pub returns : goal.returns
 returns c =
-    let all : c.loop-value.tagged.items ≡ all_ids c.args.values.now = c.loop-value.invariant ∙ ap all_ids (take_all c.loop-value.value-index c.args.values.now c.loop-value-test.false) in
-    lacking_is c.without.result c.args.ids.now c.deref.result.now c.args.values.now
-    (subst (λ (l : List ℕ). IsPermutation (all_ids c.args.values.now) l) (sym c.deref.ensures.value) (subst (λ (l : List ℕ). IsPermutation l c.sort_unstable.new.self.items) all c.sort_unstable.ensures.permutation)) c.without.ensures
+    lacking_is c.without.result c.args.lists.now c.args.measurement.now c.args.all.now c.args.key.now c.ids.result.now
+    (λ pairs holds. subst (λ (t : Term). AreIdsOf (is_of t) pairs c.ids.result.now) (λ i. TagKey (c.in_ok-carry.ensures i) (c.in_ok-carry-2.ensures i)) (c.ids.ensures pairs holds)) c.without.ensures
