@@ -172,7 +172,7 @@ filter_all : (ids : List ℕ) → filter (λ id. true) ids ≡ ids
 filter_all [] = refl
 filter_all (x ∷ xs) = ap (λ (l : List ℕ). x ∷ l) (filter_all xs)
 
-abbrev pub Answers : Listing → List ℕ → List ℕ → (( ℕ → List ℕ) → List ℕ) → Result (Vec ℕ Global) AllocError → Type 0
+abbrev pub Answers : Listing → List ℕ → List ℕ → ((ℕ → List ℕ) → List ℕ) → Result (Vec ℕ Global) AllocError → Type 0
 Answers lists measurement all wanted r = IfOk r (λ v. (series_of : ℕ → List ℕ) → Told series_of lists measurement all → v.items ≡ wanted series_of)
 
 pub test_true : (r : Result (Vec ℕ Global) AllocError) (lists : Listing) (measurement all : List ℕ) → IfOk r (λ v. v.items ≡ all) → Answers lists measurement all (λ series_of. matching series_of True all) r
