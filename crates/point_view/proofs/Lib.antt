@@ -1,2 +1,5 @@
 mod BetweenLemmas
+mod CoverLemmas
+mod HeadLemmas
+mod PlaceLemmas
 mod SeenLemmas

@@ -1,2 +1,4 @@
+pub mod Heads
 pub mod Laws
 pub mod Seen
+pub mod Sources
