@@ -14,9 +14,9 @@ abbrev pub rows_at : List KeyRun → ℕ → List Row
 rows_at runs place = option_map_or (λ (run : KeyRun). run.points) (slice_get runs place) []
 
 -- the points that stand there
-abbrev pub rows_of : Stored → List Row
-rows_of (stored.Copied rows) = rows.items
-rows_of (stored.Shared snapshot place) = let points : KeyPoints = arc_value {X = KeyPoints} snapshot in rows_at points.rows place
+abbrev pub rows_stored : Stored → List Row
+rows_stored (stored.Copied rows) = rows.items
+rows_stored (stored.Shared snapshot place) = let points : KeyPoints = arc_value {X = KeyPoints} snapshot in rows_at points.rows place
 
 -- some range has the time
 abbrev pub is_covered : List TombRange → ℤ → Bool

@@ -5,11 +5,15 @@
 mod hidden;
 mod key_cursor;
 mod laws;
+mod memory;
+mod places;
 mod source;
 mod stored;
 mod stretch;
+mod view;
 
 pub use key_cursor::KeyCursor;
 pub use laws::views_see;
 pub use source::Source;
 pub use stored::Stored;
+pub use view::View;

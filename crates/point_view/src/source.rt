@@ -2,9 +2,11 @@
 ghost use Rattle.std.specs.Prelude.{◌≡◌, ◌≤◌, length, drop, take};
 ghost use Rattle.point_model.specs.Cursors.{TakesFirst, in_order};
 ghost use Rattle.tombstones.specs.Ranges.{AreApart};
-ghost use Rattle.point_view.specs.Sources.{bare, rows_of};
+ghost use Rattle.point_cache.specs.Cached.{AreAscending, rows_within};
+ghost use Rattle.point_view.specs.Sources.{bare, rows_stored};
 
 use crate::hidden::is_hidden;
+use crate::places::range_of;
 use crate::stored::Stored;
 use crate::stretch::Stretch;
 use std::marker::Model;
@@ -33,7 +35,7 @@ impl Model for Source {
 
 impl Source {
     /// The points from one place up to another that lie in none of the ranges.
-    pub(crate) fn new(
+    pub fn new(
         points: Stored,
         first: usize,
         end: usize,
@@ -41,14 +43,30 @@ impl Source {
         descending: bool,
     ) -> Source
         requires order { first ≤ end }
-        requires within { end ≤ length (rows_of points) }
+        requires within { end ≤ length (rows_stored points) }
         requires apart { AreApart hidden.items }
-        ensures { result ≡ bare hidden.items (in_order descending (drop first (take end (rows_of points)))) }
+        ensures { result ≡ bare hidden.items (in_order descending (drop first (take end (rows_stored points)))) }
     {
         Source {
             stretch: Stretch::new(points, first, end, descending),
             hidden,
         }
+    }
+
+    /// The points from one time to another, both included, that lie in none of the ranges.
+    pub fn between(
+        points: Stored,
+        from: Time,
+        to: Time,
+        hidden: Vec<TombRange>,
+        descending: bool,
+    ) -> Source
+        requires ascending { AreAscending (rows_stored points) }
+        requires apart { AreApart hidden.items }
+        ensures { result ≡ bare hidden.items (in_order descending (rows_within from to (rows_stored points))) }
+    {
+        let (first, end) = range_of(points.as_slice(), from, to);
+        Source::new(points, first, end, hidden, descending)
     }
 
     /// Takes the next point that isn't deleted.

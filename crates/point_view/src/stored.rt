@@ -1,6 +1,6 @@
 // Where the points of a key stand in memory.
 ghost use Rattle.std.specs.Prelude.{◌≡◌};
-ghost use Rattle.point_view.specs.Sources.{rows_at, rows_of};
+ghost use Rattle.point_view.specs.Sources.{rows_at, rows_stored};
 
 use point_cache::KeyPoints;
 use std::sync::Arc;
@@ -17,7 +17,7 @@ pub enum Stored {
 
 impl Stored {
     pub(crate) fn as_slice(&self) -> &[(Time, Value)]
-        ensures { result.now ≡ rows_of self.now }
+        ensures { result.now ≡ rows_stored self.now }
     {
         match self {
             Stored::Copied(rows) => rows.as_slice(),

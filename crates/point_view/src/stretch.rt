@@ -1,7 +1,7 @@
 // Points of a key that are taken one after the other, from one end.
 ghost use Rattle.std.specs.Prelude.{◌≡◌, ◌≤◌, length, drop, take};
 ghost use Rattle.point_model.specs.Cursors.{TakesFirst, in_order};
-ghost use Rattle.point_view.specs.Sources.{rows_of};
+ghost use Rattle.point_view.specs.Sources.{rows_stored};
 
 use crate::stored::Stored;
 use std::marker::Model;
@@ -21,21 +21,21 @@ impl Model for Stretch {
     ghost use Rattle.std.specs.Prelude.{◌≤◌, List, length, drop, take};
     ghost use Rattle.point_model.specs.Cursors.{in_order};
     ghost use Rattle.point_model.specs.Rows.{Row};
-    ghost use Rattle.point_view.specs.Sources.{rows_of};
+    ghost use Rattle.point_view.specs.Sources.{rows_stored};
 
     ghost Value = { List Row };
 
-    ghost view = { λ s. in_order s.descending (drop s.first (take s.end (rows_of s.points))) };
+    ghost view = { λ s. in_order s.descending (drop s.first (take s.end (rows_stored s.points))) };
 
-    ghost invariant = { λ s. (s.first ≤ s.end) × (s.end ≤ length (rows_of s.points)) };
+    ghost invariant = { λ s. (s.first ≤ s.end) × (s.end ≤ length (rows_stored s.points)) };
 }
 
 impl Stretch {
     /// The points from one place up to another.
     pub(crate) fn new(points: Stored, first: usize, end: usize, descending: bool) -> Stretch
         requires order { first ≤ end }
-        requires within { end ≤ length (rows_of points) }
-        ensures { result ≡ in_order descending (drop first (take end (rows_of points))) }
+        requires within { end ≤ length (rows_stored points) }
+        ensures { result ≡ in_order descending (drop first (take end (rows_stored points))) }
     {
         Stretch {
             points,
