@@ -1,5 +1,5 @@
 -- The rows that are taken of a layer.
-use Rattle.std.proofs.Common.{◌≡◌, ◌∙◌, ap, ap₂, sym, refl, subst, ℕ, zero, suc, ◌<◌, ℤ, ◌<ℤ◌, Bool, true, false, cond, T, List, [], ◌∷◌, ◌++◌, length, map, reverse, take, drop, get_or, ◌+◌, filter, Option, Some, None, Ordering, Less, Equal, Greater, arith}
+use Rattle.std.proofs.Common.{◌≡◌, ◌∙◌, ap, ap₂, sym, refl, subst, ℕ, zero, suc, ◌<◌, ℤ, ◌<ℤ◌, Bool, true, false, cond, T, List, [], ◌∷◌, ◌++◌, length, map, reverse, take, drop, get_or, ◌+◌, filter, Option, Some, None, Less, Equal, Greater, arith}
 use Rattle.std.specs.Prelude.{not, ◌&&◌, ◌==◌, ◌↔◌, All, IfSome, slice_get, nat_eq}
 use Rattle.std.specs.Cmp.{int_cmp_is}
 use Rattle.std.specs.Cmp.Lexicographic.{nat_list_cmp_total, pointwise, slice_cmp}
@@ -9,10 +9,8 @@ use Rattle.std.specs.List.Sorted.{IsSortedBy, IsStrictlySortedBy}
 use Rattle.std.specs.Map.{keys_of}
 use Rattle.std.specs.Option.{option_map, option_map_or}
 use Rattle.std.specs.Ordering.{int_cmp, int_eq, is_eq, is_lt, nat_cmp, ordering_reverse}
-use Rattle.std.proofs.lemmas.Bool.{false≢true}
 use Rattle.std.proofs.lemmas.Bool.Decides.{nat_tests}
 use Rattle.std.proofs.lemmas.Cmp.{tied_itself}
-use Rattle.std.proofs.lemmas.Int.{ints}
 use Rattle.std.proofs.lemmas.List.{reverse-append, take_all}
 use Rattle.std.proofs.lemmas.List.Elements.{All-append, All-from_recursion, filter-append}
 use Rattle.std.proofs.lemmas.Map.Keys.{sorted_head, sorted_tail}
@@ -30,7 +28,7 @@ use Rattle.point_model.specs.Cursors.{Key, in_order, rows_needed}
 use Rattle.point_model.specs.Points.{Points, cell_cmp, value_at}
 use Rattle.point_model.specs.Rows.{Row}
 use Rattle.merge_cursor.specs.Overlays.{AreInOrder, overlay, time_cmp, value_of, with_rows}
-use Rattle.merge_cursor.proofs.OrderLemmas.{sorted_fact, sorted_test, t_both, t_less}
+use Rattle.merge_cursor.proofs.OrderLemmas.{sorted_fact, t_both, t_less}
 use Rattle.merge_cursor.proofs.NestLemmas.{overlay_nests}
 use Rattle.merge_cursor.proofs.StepLemmas.{none_after, same_time}
 use Rattle.point_cache.specs.declared.key_points.KeyPoints.{KeyPoints}
@@ -40,7 +38,7 @@ use Rattle.point_cache.proofs.LatestLemmas.{later-none}
 use Rattle.point_cache.proofs.EntryLemmas.{key_same, same_key}
 use Rattle.point_view.specs.Layers.{cache_content, cached_rows, frozen, frozen_rows, key_rows, layer_rows, memory_content, snapshot_content}
 use Rattle.point_view.specs.Sources.{bare, is_covered, rows_at}
-use Rattle.point_view.specs.Seen.{AreRowsUnder, is_asked}
+use Rattle.point_view.specs.Seen.{is_asked}
 use Rattle.point_view.proofs.CoverLemmas.{covered_hidden}
 use Rattle.point_view.proofs.SeenLemmas
 

@@ -1,5 +1,5 @@
 -- What is left of the points of a key in memory?
-use Rattle.std.specs.Prelude.{ℕ, ℤ, int_le, Bool, false, not, ◌&&◌, ◌||◌, List, [], ◌∷◌, filter, slice_get, Option, Some, None}
+use Rattle.std.specs.Prelude.{ℕ, ℤ, int_le, Bool, false, not, ◌&&◌, ◌||◌, List, [], ◌∷◌, filter, slice_get}
 use Rattle.std.specs.Arc.{arc_value}
 use Rattle.std.specs.Option.{option_map_or}
 use Rattle.tombstones.specs.declared.range.TombRange.{TombRange}

@@ -1,4 +1,4 @@
-use Rattle.std.proofs.Common.{◌∙◌, sym, subst, set, length, ℕ, arith, add-one}
+use Rattle.std.proofs.Common.{◌∙◌, sym, subst, set, ℕ, arith, add-one}
 use Rattle.std.proofs.lemmas.List.{length-set}
 use Rattle.point_view.proofs.HeadLemmas.{Looked, all_looked, looked_more, set_kept}
 use Rattle.point_view.proofs.key_cursor.fill.Goals as goal

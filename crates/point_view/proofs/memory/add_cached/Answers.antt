@@ -1,5 +1,5 @@
 -- The copy is a source of the points that are asked for.
-use Rattle.std.proofs.Common.{◌≡◌, ◌∙◌, sym, subst, ℤ, false, List, []}
+use Rattle.std.proofs.Common.{◌≡◌, ◌∙◌, sym, subst, false, []}
 use Rattle.merge_cursor.specs.Overlays.{AreInOrder}
 use Rattle.point_cache.specs.Cached.{AreAscending, points_at}
 use Rattle.point_view.specs.Layers.{cached_rows}

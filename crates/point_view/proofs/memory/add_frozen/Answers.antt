@@ -6,7 +6,6 @@ use Rattle.std.specs.Option.{option_map_or}
 use Rattle.tombstones.specs.Covered.{Hides, Tomb, hides}
 use Rattle.tombstones.specs.Ranges.{Covers}
 use Rattle.tombstones.specs.declared.range.TombRange.{TombRange}
-use Rattle.point_model.specs.Rows.{Row}
 use Rattle.merge_cursor.specs.Overlays.{AreInOrder}
 use Rattle.point_cache.specs.declared.key_points.KeyPoints.{KeyPoints}
 use Rattle.point_cache.specs.declared.key_points.KeyRun.{KeyRun}

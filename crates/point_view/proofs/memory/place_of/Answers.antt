@@ -1,5 +1,5 @@
 -- The keys of a snapshot ascend, so a search finds the one place of a key.
-use Rattle.std.proofs.Common.{◌≡◌, ◌<◌, List, [], length, get_or, slice_get, inl, inr, sym, ap, ◌∙◌, subst, arith, rules, of_calls, ℕ}
+use Rattle.std.proofs.Common.{◌≡◌, List, [], get_or, inl, inr, sym, ap, ◌∙◌, subst, arith, rules, of_calls}
 use Rattle.std.specs.Ordering.{nat_cmp, ordering_index}
 use Rattle.std.specs.Cmp.Lexicographic.{slice_cmp, nat_list_cmp_total}
 use Rattle.std.specs.List.Sorted.{IsNonDecreasingBy}

@@ -1,5 +1,5 @@
 -- No source was looked at, so all of each is left.
-use Rattle.std.proofs.Common.{◌≡◌, ◌∙◌, ap, ap₂, sym, subst, Bool, All, None, Option, length, replicate, List}
+use Rattle.std.proofs.Common.{◌≡◌, ◌∙◌, ap, ap₂, sym, subst, Bool, All, None, Option, length, List}
 use Rattle.std.proofs.lemmas.List.{length-replicate}
 use Rattle.point_model.specs.Rows.{Row}
 use Rattle.merge_cursor.specs.Overlays.{AreInOrder, overlay}

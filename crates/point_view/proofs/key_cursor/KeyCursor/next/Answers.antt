@@ -1,10 +1,10 @@
 -- A step takes the first row of the overlay, and where none is left the overlay is empty.
-use Rattle.std.proofs.Common.{◌≡◌, ◌∙◌, ap, refl, sym, subst, Bool, All, IsNone, Option, List, [], ◌∷◌, length}
+use Rattle.std.proofs.Common.{◌≡◌, ◌∙◌, ap, refl, sym, subst, Bool, All, IsNone, Option, List, ◌∷◌, length}
 use Rattle.point_model.specs.Rows.{Row}
 use Rattle.merge_cursor.specs.Overlays.{AreInOrder, overlay}
 use Rattle.merge_cursor.specs.Steps.{IsNext}
 use Rattle.point_view.specs.Heads.{heads_passed, with_heads}
-use Rattle.point_view.proofs.HeadLemmas.{Stepped, ended, stepped}
+use Rattle.point_view.proofs.HeadLemmas.{ended, stepped}
 use Rattle.point_view.proofs.key_cursor.KeyCursor.next.Goals as goal
 
 pub returns-in-Some : goal.returns-in-Some

@@ -1,5 +1,5 @@
 -- The point at the one end is taken.
-use Rattle.std.proofs.Common.{◌≡◌, ◌∙◌, ap, sym, get_or, List, arith}
+use Rattle.std.proofs.Common.{◌∙◌, ap, sym, get_or, List, arith}
 use Rattle.point_model.specs.Rows.{Row}
 use Rattle.point_view.specs.Sources.{rows_stored}
 use Rattle.point_view.proofs.PlaceLemmas.{ascending_taken}
