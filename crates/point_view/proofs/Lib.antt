@@ -1,2 +1,6 @@
 mod BetweenLemmas
+mod CoverLemmas
+mod HeadLemmas
+mod LayerLemmas
+mod PlaceLemmas
 mod SeenLemmas

@@ -1,2 +1,5 @@
+pub mod Heads
 pub mod Laws
+pub mod Layers
 pub mod Seen
+pub mod Sources
