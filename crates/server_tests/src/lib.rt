@@ -11,5 +11,3 @@ mod files;
 mod rows;
 #[cfg(test)]
 mod runs;
-#[cfg(test)]
-mod together;
