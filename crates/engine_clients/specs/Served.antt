@@ -6,6 +6,7 @@ use Rattle.point_model.specs.Histories.{state_after}
 use Rattle.point_model.specs.declared.entry.Entry.{Entry}
 use Rattle.shard_calls.specs.Holds.{HasRun, HoldsSeries}
 use Rattle.shard_calls.specs.Told.{limits_of}
+use Rattle.shard_state.specs.History.{Attempt}
 use Rattle.shard_steps.specs.Shards.{IsReady, state_of}
 use Rattle.shard_steps.specs.declared.shard.Shard.{Shard}
 use Rattle.engine_session.specs.Clients.{AreSessions, Finished}
@@ -32,8 +33,8 @@ pub record ServesTogether {D R W S K C : Type 0} (g : Ghosts D R W) (members : D
   pub sessions : List ClientSession
   pub are : AreSessions members (map client_of old) finished sessions
   pub history : List Entry
-  pub tried : List Entry
-  pub holds : HoldsSeries start.logs.series.keys history left.logs.series.keys
+  pub tried : List Attempt
+  pub holds : HoldsSeries start.logs.series.keys history tried left.logs.series.keys
   pub served : AreServed sessions (state_of start) (limits_of (state_of start) start.logs.series.keys start) (length left.logs.series.keys) history tried (g.health start.logs.disk) (g.health left.logs.disk)
   pub state : state_of left ≡ state_after (state_of start) history
   pub ran : IsTrue g.tells → (since : ℕ) → HasRun g (state_of start) since [] [] start → HasRun g (state_of start) since history tried left

@@ -15,6 +15,7 @@ use Rattle.session_loop.specs.Sessions.{Told, faults_in}
 use Rattle.session_loop.specs.Steps.{HasCause}
 use Rattle.shard_calls.specs.Holds.{HasRun, HoldsSeries}
 use Rattle.shard_calls.specs.Told.{limits_of}
+use Rattle.shard_state.specs.History.{Attempt}
 use Rattle.shard_state.specs.Meaning.{NamesSeries}
 use Rattle.shard_steps.specs.Shards.{state_of}
 use Rattle.shard_steps.specs.declared.shard.Shard.{Shard}
@@ -48,7 +49,7 @@ AreTranscripts (session ∷ sessions) [] = ⊥
 -- the engine's limits, a failed device or want of memory. The count of the device's faults rose by no less than the replies that tell
 -- a fault, and by nothing where none does. Each of the entries tried is one that a client asked for and was refused by a fault or for want
 -- of memory.
-pub record AreServed (sessions : List ClientSession) (start : State) (limits : Limits) (held : ℕ) (history tried : List Entry) (old new : Health) : Type 0 where
+pub record AreServed (sessions : List ClientSession) (start : State) (limits : Limits) (held : ℕ) (history : List Entry) (tried : List Attempt) (old new : Health) : Type 0 where
   pub transcripts : List Transcript
   pub are : AreTranscripts sessions transcripts
   pub explained : ExplainedBut true (HasCause true (Some limits) held start) start history transcripts
@@ -64,9 +65,9 @@ pub record AreServed (sessions : List ClientSession) (start : State) (limits : L
 -- handed out what it had: no reader is out more, so that it can be opened again.
 pub record Serves {D R W : Type 0} (g : Ghosts D R W) (sessions : List ClientSession) (engine : Shard D) (disk : D) (number : ℕ) (closed : Result (Unit {0}) Trouble) : Type 0 where
   pub history : List Entry
-  pub tried : List Entry
+  pub tried : List Attempt
   pub held : List (List ℕ)
-  pub holds : HoldsSeries engine.logs.series.keys history held
+  pub holds : HoldsSeries engine.logs.series.keys history tried held
   pub middle : Health
   pub served : AreServed sessions (state_of engine) (limits_of (state_of engine) engine.logs.series.keys engine) (length held) history tried (g.health engine.logs.disk) middle
   pub counted : number ≡ (state_of engine).number + length history

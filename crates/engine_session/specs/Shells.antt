@@ -13,6 +13,7 @@ use Rattle.session_io.specs.declared.report.Report.{Report}
 use Rattle.session_loop.specs.Sessions.{Told}
 use Rattle.shard_disk.specs.Directory.{Directory}
 use Rattle.shard_state.specs.Crashes.{LeavesOnly}
+use Rattle.shard_state.specs.History.{Attempt}
 use Rattle.shard_state.specs.Meaning.{NamesSeries, Stands}
 use Rattle.shard_state.specs.Opening.{IsSoundAtOpening, IsSoundThroughout}
 use Rattle.shard_recover.specs.Damage.{IsFirstDamage}
@@ -53,8 +54,8 @@ pub record ServesDirectory {D R W : Type 0} (g : Ghosts D R W) (settings : Setti
   pub series : List (List ℕ)
   pub held : List (List ℕ)
   pub history : List Entry
-  pub tried : List Entry
-  pub holds : HoldsSeries series history held
+  pub tried : List Attempt
+  pub holds : HoldsSeries series history tried held
   pub middle : Health
   pub served : AreServed sessions start (limits_with settings start series) (length held) history tried (g.health disk) middle
   pub counted : number ≡ start.number + length history

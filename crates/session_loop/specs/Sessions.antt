@@ -9,11 +9,11 @@ use Rattle.session_io.specs.declared.report.Report.{Report}
 use Rattle.session_io.specs.declared.report.End.{End}
 use Rattle.session_io.specs.declared.report.End.TheVariants.{Read, SourceFault, SinkFault}
 use Rattle.session_io.specs.Streams.{Grows, Shrinks}
-use Rattle.store_trait.specs.Told.{Keeps}
-use Rattle.session_model.specs.Machine.{Answer, TriesEntry}
+use Rattle.store_trait.specs.Told.{Attempt, Keeps}
+use Rattle.session_model.specs.Machine.{Answer}
 use Rattle.session_model.specs.Replies.{Reply}
 use Rattle.session_model.specs.Replies.Reply.{Accepted, Found, Reached, NotReached, NotBuilt, Refused, TypeConflict, HistoryFull, OutOfMemory, DeviceFault, Damaged, CacheFull, SeriesFull}
-use Rattle.session_model.specs.Explained.{Transcript, Dialogue, Records, IsTold, Explained, all_answers, own_numbers}
+use Rattle.session_model.specs.Explained.{Transcript, Dialogue, Records, IsTold, Explained, TriesBehind, all_answers, own_numbers}
 use Rattle.session_loop.specs.Steps.{Stored, HasCauseAt}
 
 -- what a client's source, sink and clock tell at a moment
@@ -63,9 +63,9 @@ abbrev pub faults_in : List Answer → ℕ
 faults_in [] = 0
 faults_in (answer ∷ answers) = (if is_fault answer.reply then 1 else 0) + faults_in answers
 
--- each entry that is told as tried was told so before, or one of these answers to the client tried it
-abbrev pub AddsTriedBy : ℕ → List Answer → List Entry → List Entry → Type 0
-AddsTriedBy client answers old new = (entry : Entry) → Contains new entry → Contains old entry ⊎ Any (TriesEntry client entry) answers
+-- each entry that is told as tried was told so before, or one of these answers to the client tried it where it stands
+abbrev pub AddsTriedBy : ℕ → List Answer → List Attempt → List Attempt → Type 0
+AddsTriedBy client answers old new = (attempt : Attempt) → Contains new attempt → Contains old attempt ⊎ TriesBehind client attempt.0 attempt.1 answers
 
 -- What a session over a store did to it: the answers of a dialogue take their places in the history that the store told
 -- before and since, the numbers that became the client's are those that it was told were accepted, no view is left, the

@@ -83,10 +83,22 @@ pub record Records (opening : ℕ) (transcript : Transcript) (dialogue : Dialogu
 abbrev pub own_numbers : Dialogue → List ℕ
 own_numbers dialogue = flat_map (λ answer. accepted answer.reply) (all_answers dialogue)
 
--- one of the dialogues, whose clients are numbered from this one on, has an answer that tried the entry
-abbrev pub IsTriedIn : ℕ → List Dialogue → Entry → Type 0
-IsTriedIn client [] entry = ⊥
-IsTriedIn client (dialogue ∷ dialogues) entry = Any (TriesEntry client entry) (all_answers dialogue) ⊎ IsTriedIn (client + 1) dialogues entry
+-- One of the answers to the client refused this entry, where this was the number of the last one: no number told before it is greater, and
+-- none told since is smaller, nor is one of an entry that was accepted since the same.
+pub record TriesBehind (client number : ℕ) (entry : Entry) (answers : List Answer) : Type 0 where
+  pub before : List Answer
+  pub answer : Answer
+  pub since : List Answer
+  pub are : answers ≡ before ++ answer ∷ since
+  pub tries : TriesEntry client entry answer
+  pub from : All (λ earlier. IfSome earlier.number (λ told. told ≤ number)) before
+  pub to : All (λ later. IfSome later.number (λ told. number ≤ told)) since
+  pub behind : All (λ later. All (λ own. number < own) (accepted later.reply)) since
+
+-- one of the dialogues, whose clients are numbered from this one on, has an answer that tried the entry behind the number
+abbrev pub IsTriedIn : ℕ → List Dialogue → ℕ × Entry → Type 0
+IsTriedIn client [] attempt = ⊥
+IsTriedIn client (dialogue ∷ dialogues) attempt = TriesBehind client attempt.0 attempt.1 (all_answers dialogue) ⊎ IsTriedIn (client + 1) dialogues attempt
 
 -- the client was opened at this place of the history, and its answers take their places behind it
 pub record IsTold (tells : Bool) (HasCause : List Entry → Answer → Type 0) (start : State) (history : List Entry) (client : ℕ) (transcript : Transcript) (dialogue : Dialogue) (place : ℕ) : Type 0 where

@@ -3,7 +3,7 @@ use Rattle.std.specs.Prelude.{ℕ, ◌+◌, true, List, length, replicate, Some}
 use Rattle.shard_disk.specs.Health.{Health}
 use Rattle.point_model.specs.Histories.{State}
 use Rattle.point_model.specs.declared.entry.Entry.{Entry}
-use Rattle.store_trait.specs.Told.{Limits, Told, numbers_from}
+use Rattle.store_trait.specs.Told.{Attempt, Limits, Told, numbers_from}
 use Rattle.shard_steps.specs.declared.shard.Shard.{Shard}
 
 -- what it tells, and its health
@@ -16,7 +16,7 @@ abbrev pub limits_of : {D : Type 0} → State → List (List ℕ) → Shard D �
 limits_of start first shard = record { cached = length start.points; most_cached = shard.settings.cache_points; series = first; most_series = shard.settings.series }
 
 -- Its entries are those that it made, each its own and counted from the start. It has its points in memory, so it tells them.
-abbrev pub told_of : {D : Type 0} → ℕ → State → List (List ℕ) → List Entry → List Entry → Shard D → Told
+abbrev pub told_of : {D : Type 0} → ℕ → State → List (List ℕ) → List Entry → List Attempt → Shard D → Told
 told_of client start first entries tried shard = record {
   client = client;
   start = start;

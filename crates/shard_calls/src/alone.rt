@@ -4,7 +4,7 @@ ghost use Rattle.shard_calls.specs.Holds.{HasRun, HoldsSeries};
 ghost use Rattle.shard_calls.specs.Told.{told_of};
 ghost use Rattle.shard_steps.specs.Shards.{IsReady, state_of};
 
-use crate::noting::{add_attempt, attempt, deletion_attempt};
+use crate::noting::{NotedAttempt, add_attempt, attempt, deletion_attempt};
 use crate::{EngineDisk, Site};
 use point_model::{Deletion, Need};
 use shard_steps::{Shard, begin_view, end_view};
@@ -19,7 +19,7 @@ use tsdb_types::Batch;
 pub struct Alone<D: EngineDisk, B: Site> {
     client: u32,
     notes: Vec<EntryNote>,
-    tried: Vec<Option<EntryNote>>,
+    tried: Vec<Snapshot<NotedAttempt>>,
     shard: Shard<D>,
     site: PhantomData<B>,
 }
@@ -66,7 +66,7 @@ impl<D: EngineDisk, B: Site> Alone<D, B> {
     pub fn into_shard(self) -> Shard<D>
         ensures ready { IsReady D.Disk result }
         ensures ran { IsTrue D.Disk.tells → (since : ℕ) → B.is_sound since → HasRun D.Disk B.start since self.told.history self.told.tried result }
-        ensures holds { HoldsSeries B.series self.told.history result.logs.series.keys }
+        ensures holds { HoldsSeries B.series self.told.history self.told.tried result.logs.series.keys }
         ensures series { self.told.series ≡ length result.logs.series.keys }
         ensures health { self.health ≡ D.Disk.health result.logs.disk }
         // No reader of the disk is out more than at the start, and it has adopted the same files.
@@ -100,7 +100,7 @@ impl<D: EngineDisk, B: Site> Store for Alone<D, B> {
             }
             Err(fault) => {
                 let tried = attempt(&fault, EntryNote::Written(Snapshot::of(batch)));
-                add_attempt(&mut self.tried, tried);
+                add_attempt(&mut self.tried, self.shard.number(), tried);
                 Err(fault)
             }
         }
@@ -116,7 +116,7 @@ impl<D: EngineDisk, B: Site> Store for Alone<D, B> {
             }
             Err(refusal) => {
                 let tried = deletion_attempt(&refusal, EntryNote::Deleted(Snapshot::of(deletion)));
-                add_attempt(&mut self.tried, tried);
+                add_attempt(&mut self.tried, self.shard.number(), tried);
                 Err(refusal)
             }
         }

@@ -8,5 +8,5 @@ mod site;
 
 pub use alone::Alone;
 pub use engine_disk::EngineDisk;
-pub use noting::{attempt, deletion_attempt};
+pub use noting::{NotedAttempt, attempt, deletion_attempt};
 pub use site::Site;

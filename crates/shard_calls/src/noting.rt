@@ -1,7 +1,8 @@
 // What is noted of an entry that was refused: for proofs which it was, and no byte of it.
-ghost use Rattle.std.specs.Prelude.{◌≡◌, ◌<◌, ◌++◌, ◌∷◌, [], vec_len, vec_capacity};
-ghost use Rattle.shard_calls.specs.Attempts.{attempt_of, deletion_attempt_of};
+ghost use Rattle.std.specs.Prelude.{◌≡◌, ◌<◌, ◌++◌, ℕ, vec_len, vec_capacity};
+ghost use Rattle.shard_calls.specs.Attempts.{attempt_of, deletion_attempt_of, entries_tried, entry_tried};
 
+use std::snapshot::Snapshot;
 use store_trait::{DeleteFault, EntryNote, WriteFault};
 
 /// The note of a batch that was refused, where a fault or want of memory refused it: then a crash may leave it.
@@ -33,10 +34,27 @@ pub fn deletion_attempt(fault: &DeleteFault, note: EntryNote) -> Option<EntryNot
     }
 }
 
+/// A refused write or deletion.
+#[derive(Drop)]
+pub struct NotedAttempt {
+    /// The number of the last entry then.
+    pub number: u64,
+    /// What was asked for, where a fault or want of memory refused it: a crash may leave it.
+    pub tried: Option<EntryNote>,
+}
+
 /// Puts what is noted of a refused entry behind the others, where the room for it is there.
-pub(crate) fn add_attempt(tried: &mut Vec<Option<EntryNote>>, attempt: Option<EntryNote>)
+pub(crate) fn add_attempt(
+    tried: &mut Vec<Snapshot<NotedAttempt>>,
+    number: u64,
+    attempt: Option<EntryNote>,
+)
     requires { vec_len tried.old < vec_capacity tried.old }
-    ensures { tried.new.items ≡ tried.old.items ++ attempt ∷ [] }
+    ensures { (client : ℕ) → entries_tried client tried.new.items ≡ entries_tried client tried.old.items ++ entry_tried client number attempt }
 {
-    let _ = tried.push(attempt);
+    let noted = NotedAttempt {
+        number,
+        tried: attempt,
+    };
+    let _ = tried.push(Snapshot::of(&noted));
 }

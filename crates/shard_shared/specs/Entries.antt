@@ -3,7 +3,7 @@ use Rattle.std.specs.Prelude.{ℕ, ◌+◌, ◌≤◌, max, List, [], ◌∷◌,
 use Rattle.std.specs.List.{AllByRecursion, flat_map}
 use Rattle.std.specs.declared.snapshot.Snapshot.{Snapshot}
 use Rattle.point_model.specs.declared.entry.Entry.{Entry}
-use Rattle.shard_state.specs.History.{Made, entries_of}
+use Rattle.shard_state.specs.History.{Attempt, Made, entries_of}
 use Rattle.shard_calls.specs.Attempts.{entry_tried}
 use Rattle.shard_shared.specs.declared.engine.Entered.{Entered}
 use Rattle.shard_shared.specs.declared.engine.Refusal.{Refusal}
@@ -23,8 +23,8 @@ abbrev pub refusals_in : List (Snapshot Refusal) → List Refusal
 refusals_in notes = map (λ (note : Snapshot Refusal). note.value) notes
 
 -- the entries of these refusals that were tried
-abbrev pub tried_in : List Refusal → List Entry
-tried_in refusals = flat_map (λ (refusal : Refusal). entry_tried refusal.client refusal.tried) refusals
+abbrev pub tried_in : List Refusal → List Attempt
+tried_in refusals = flat_map (λ (refusal : Refusal). entry_tried refusal.client refusal.number refusal.tried) refusals
 
 -- none of these refusals found more series than are held
 abbrev pub AreFew : List Refusal → List (List ℕ) → Type 0
@@ -56,11 +56,11 @@ most_found (Fault ∷ loans) = most_found loans
 most_found (Found refusal ∷ loans) = max refusal.series (most_found loans)
 
 -- the entries among the loans that were tried
-abbrev pub tried_lent : List Lent → List Entry
+abbrev pub tried_lent : List Lent → List Attempt
 tried_lent [] = []
 tried_lent (View ∷ loans) = tried_lent loans
 tried_lent (Fault ∷ loans) = tried_lent loans
-tried_lent (Found refusal ∷ loans) = entry_tried refusal.client refusal.tried ++ tried_lent loans
+tried_lent (Found refusal ∷ loans) = entry_tried refusal.client refusal.number refusal.tried ++ tried_lent loans
 
 -- the loans without the first view
 abbrev pub without_view : List Lent → List Lent

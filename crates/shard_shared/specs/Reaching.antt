@@ -5,7 +5,7 @@ use Rattle.shard_disk.specs.Health.{Health, Ages, last_count}
 use Rattle.shard_disk.specs.declared.disk.Disk.{Ghosts}
 use Rattle.point_model.specs.Histories.{State, state_after}
 use Rattle.point_model.specs.declared.entry.Entry.{Entry}
-use Rattle.shard_state.specs.History.{Made}
+use Rattle.shard_state.specs.History.{Attempt, Made}
 use Rattle.shard_steps.specs.Shards.{IsReady, Runs, state_of}
 use Rattle.shard_steps.specs.declared.shard.Shard.{Shard}
 use Rattle.shard_calls.specs.Holds.{HasRun, HoldsSeries}
@@ -25,30 +25,30 @@ abbrev pub entered_by : {D R W : Type 0} → Ghosts D R W → Entry → Shard D 
 entered_by g entry shard = record { entry = entry; moment = (g.crashes shard.logs.disk).moment }
 
 -- The engine ran from the start to exactly these entries, each logged by its moment: every crash since leaves a prefix of them,
--- with at most one entry more, which is one of those that were tried.
-pub record RunsTo {D R W : Type 0} (g : Ghosts D R W) (start : State) (since : ℕ) (made : List Made) (tried : List Entry) (shard : Shard D) : Type 0 where
-  pub refused : List Entry
+-- with at most one entry more, which was tried behind exactly that prefix.
+pub record RunsTo {D R W : Type 0} (g : Ghosts D R W) (start : State) (since : ℕ) (made : List Made) (tried : List Attempt) (shard : Shard D) : Type 0 where
+  pub refused : List Attempt
   pub were_tried : AllByRecursion (Contains tried) refused
   pub doubt : Option Entry
   pub runs : Runs g shard start since made refused doubt
 
 -- An engine came from its start to these entries: its points and number are those behind them, its limits are as they were, no
--- reader was handed out, and so many of its answers told a fault.
-pub record ComesTo {D R W : Type 0} (g : Ghosts D R W) (start : Shard D) (faults : ℕ) (entered : List Entered) (shard : Shard D) : Type 0 where
+-- reader was handed out, so many of its answers told a fault, and these entries were tried besides.
+pub record ComesTo {D R W : Type 0} (g : Ghosts D R W) (start : Shard D) (faults : ℕ) (tried : List Attempt) (entered : List Entered) (shard : Shard D) : Type 0 where
   pub ready : IsReady g shard
   pub state : state_of shard ≡ state_after (state_of start) (entries_in entered)
   pub settings : shard.settings ≡ start.settings
-  pub series : HoldsSeries start.logs.series.keys (entries_in entered) shard.logs.series.keys
+  pub series : HoldsSeries start.logs.series.keys (entries_in entered) tried shard.logs.series.keys
   pub handed_out : g.handed_out shard.logs.disk ≡ g.handed_out start.logs.disk
   pub health : HasFailed (g.health start.logs.disk) faults (g.health shard.logs.disk)
 
 -- the same where there is a start; from nowhere it came to nothing
-abbrev pub ComesFrom : {D R W : Type 0} → Ghosts D R W → Option (Shard D) → ℕ → List Entered → Shard D → Type 0
-ComesFrom g (Some start) faults entered shard = ComesTo g start faults entered shard
-ComesFrom g None faults entered shard = ⊥
+abbrev pub ComesFrom : {D R W : Type 0} → Ghosts D R W → Option (Shard D) → ℕ → List Attempt → List Entered → Shard D → Type 0
+ComesFrom g (Some start) faults tried entered shard = ComesTo g start faults tried entered shard
+ComesFrom g None faults tried entered shard = ⊥
 
 -- Where the start was sound since a moment, the engine ran since then to these entries, and these were tried besides.
-abbrev pub RanFrom : {D R W : Type 0} → Ghosts D R W → Option (Shard D) → List Entry → List Entered → Shard D → Type 0
+abbrev pub RanFrom : {D R W : Type 0} → Ghosts D R W → Option (Shard D) → List Attempt → List Entered → Shard D → Type 0
 RanFrom g (Some start) tried entered shard =
     IsTrue g.tells → (since : ℕ) → HasRun g (state_of start) since [] [] start → RunsTo g (state_of start) since (made_by entered) tried shard
 RanFrom g None tried entered shard = ⊥
@@ -56,5 +56,5 @@ RanFrom g None tried entered shard = ⊥
 -- An engine came from its start to these entries, none of the refusals that were noted found more series than it holds, and what a crash
 -- may leave besides the entries is one of those that are noted as tried.
 abbrev pub Stands : {D R W : Type 0} → Ghosts D R W → Option (Shard D) → List Entered → Engine D → Type 0
-Stands g start entered engine = ComesFrom g start engine.faults entered engine.shard × AreFew (refusals_in engine.found.items) engine.shard.logs.series.keys
+Stands g start entered engine = ComesFrom g start engine.faults (tried_in (refusals_in engine.found.items)) entered engine.shard × AreFew (refusals_in engine.found.items) engine.shard.logs.series.keys
     × RanFrom g start (tried_in (refusals_in engine.found.items)) entered engine.shard

@@ -37,6 +37,8 @@ pub struct Refusal {
     pub client: u32,
     /// How many series were held.
     pub series: u64,
+    /// The number of the last entry then.
+    pub number: u64,
     /// What was asked for, where a fault or want of memory refused it: a crash may leave it.
     pub tried: Option<EntryNote>,
 }

@@ -101,6 +101,7 @@ impl<'t, D: EngineDisk, R: Wait, P: Place> Store for Shared<'t, D, R, P> {
                 let refusal = Refusal {
                     client: self.client,
                     series: engine.shard.facts().series,
+                    number: engine.shard.number(),
                     tried: attempt(&fault, EntryNote::Written(Snapshot::of(batch))),
                 };
                 note(&mut engine.found, Snapshot::of(&refusal));
@@ -138,6 +139,7 @@ impl<'t, D: EngineDisk, R: Wait, P: Place> Store for Shared<'t, D, R, P> {
                 let refusal = Refusal {
                     client: self.client,
                     series: engine.shard.facts().series,
+                    number: engine.shard.number(),
                     tried: deletion_attempt(&fault, EntryNote::Deleted(Snapshot::of(deletion))),
                 };
                 note(&mut engine.found, Snapshot::of(&refusal));

@@ -14,7 +14,7 @@ use Rattle.wal_store.specs.Segments.{Recorded, SpellsRecord}
 use Rattle.shard_state.specs.Books.{Books, IsNext, state_in, with_entry, with_series}
 use Rattle.shard_state.specs.Crashes.{LeavesOnly}
 use Rattle.shard_state.specs.Engine.{Holds, IsLeftEntry, IsRecordOf, MayFollow, Refused, series_in}
-use Rattle.shard_state.specs.History.{Made, Ran, Survives, entries_of}
+use Rattle.shard_state.specs.History.{Attempt, Made, Ran, Survives, entries_of}
 use Rattle.shard_state.specs.Meaning.{IsTaken, NamesSeries, StandsWithAtMost}
 use Rattle.shard_state.specs.Opening.{IsSoundThroughout, IsSoundWithAtMost}
 
@@ -46,15 +46,15 @@ pub record Enters {D R W : Type 0} (g : Ghosts D R W) (prepared : Prepared) (old
   pub crash : IsTrue g.tells → (books : Books) (doubt : Option Entry) (entry : Entry) → Holds g old books doubt → MayFollow books prepared entry
       → LeavesOnly (StandsWithAtMost (state_in books) (entry ∷ option_to_list doubt)) (g.crashes old.disk) (g.crashes new.disk)
 
--- The entry becomes the last of a history, with none in doubt. Or a refusal leaves the history as it was; in doubt is then none, the
--- entry that was, or after a fault this one.
+-- The entry becomes the last of a history, with none in doubt. Or a refusal leaves the history as it was, and is one behind its last
+-- number; in doubt is then none, the entry that was, or after a fault this one.
 pub record GoesOn {D R W : Type 0} (g : Ghosts D R W) (prepared : Prepared) (old new : Logs D) (result : Result (Unit {0}) Trouble) : Type 0 where
-  pub ok : OnOk result (IsTrue g.tells → (start : State) (since : ℕ) (made : List Made) (refused : List Entry) (doubt : Option Entry) (entry : Entry) → Ran g old start since made refused doubt
+  pub ok : OnOk result (IsTrue g.tells → (start : State) (since : ℕ) (made : List Made) (refused : List Attempt) (doubt : Option Entry) (entry : Entry) → Ran g old start since made refused doubt
       → IsRecordOf entry prepared → IsTaken (old.series.keys ++ series_in prepared.series) (state_after start (entries_of made)).points entry
       → Ran g new start since (made ++ record { entry = entry; moment = (g.crashes new.disk).moment } ∷ []) refused None)
-  pub stays : OnErr result (IsTrue g.tells → (start : State) (since : ℕ) (made : List Made) (refused : List Entry) (doubt : Option Entry) (entry : Entry) → Ran g old start since made refused doubt
+  pub stays : OnErr result (IsTrue g.tells → (start : State) (since : ℕ) (made : List Made) (refused : List Attempt) (doubt : Option Entry) (entry : Entry) → Ran g old start since made refused doubt
       → IsRecordOf entry prepared → IsTaken (old.series.keys ++ series_in prepared.series) (state_after start (entries_of made)).points entry
-      → (left : Option Entry) × IsLeftEntry (IsErrOf result Fault) doubt entry left × Ran g new start since made (refused ++ entry ∷ []) left)
+      → (left : Option Entry) × IsLeftEntry (IsErrOf result Fault) doubt entry left × Ran g new start since made (refused ++ (old.number, entry) ∷ []) left)
 
 -- The number rises by one with an entry and else stays. The new series are held after an entry, and may be after a refusal.
 pub record Counts {D : Type 0} (prepared : Prepared) (old new : Logs D) (result : Result (Unit {0}) Trouble) : Type 0 where
@@ -70,8 +70,8 @@ pub record SettlesDoubt {D R W : Type 0} (g : Ghosts D R W) (old new : Logs D) (
   pub refused : OnErr result (IsTrue g.tells → (books : Books) (doubt : Option Entry) → Holds g old books doubt → Holds g new books doubt)
   pub crash : IsTrue g.tells → (books : Books) (doubt : Option Entry) → Holds g old books doubt
       → LeavesOnly (StandsWithAtMost (state_in books) (option_to_list doubt)) (g.crashes old.disk) (g.crashes new.disk)
-  pub ran : OnOk result (IsTrue g.tells → (start : State) (since : ℕ) (made : List Made) (refused : List Entry) (doubt : Option Entry) → Ran g old start since made refused doubt → Ran g new start since made refused None)
-  pub ran_refused : OnErr result (IsTrue g.tells → (start : State) (since : ℕ) (made : List Made) (refused : List Entry) (doubt : Option Entry) → Ran g old start since made refused doubt → Ran g new start since made refused doubt)
+  pub ran : OnOk result (IsTrue g.tells → (start : State) (since : ℕ) (made : List Made) (refused : List Attempt) (doubt : Option Entry) → Ran g old start since made refused doubt → Ran g new start since made refused None)
+  pub ran_refused : OnErr result (IsTrue g.tells → (start : State) (since : ℕ) (made : List Made) (refused : List Attempt) (doubt : Option Entry) → Ran g old start since made refused doubt → Ran g new start since made refused doubt)
 
 -- After Ok the disk stands for exactly the state, and every crash leaves it. After a refusal the entry that was in doubt may be there
 -- besides. Either way the disk is sound as it is opened again, and the series file that its manifest names has the series that were
@@ -82,7 +82,7 @@ pub record Closes {D R W : Type 0} (g : Ghosts D R W) (logs : Logs D) (disk : D)
       → IsSoundWithAtMost g disk (state_in books) (option_to_list doubt) × ((c : Directory) → (g.crashes disk).now c → StandsWithAtMost (state_in books) (option_to_list doubt) c))
   pub crash : IsTrue g.tells → (books : Books) (doubt : Option Entry) → Holds g logs books doubt
       → LeavesOnly (StandsWithAtMost (state_in books) (option_to_list doubt)) (g.crashes logs.disk) (g.crashes disk)
-  pub ran : IsTrue g.tells → (start : State) (since : ℕ) (made : List Made) (refused : List Entry) (doubt : Option Entry) → Ran g logs start since made refused doubt
+  pub ran : IsTrue g.tells → (start : State) (since : ℕ) (made : List Made) (refused : List Attempt) (doubt : Option Entry) → Ran g logs start since made refused doubt
       → Survives (g.crashes disk) start since made refused
   pub series : IsTrue g.tells → (books : Books) (doubt : Option Entry) → Holds g logs books doubt → (more : List (List ℕ)) × NamesSeries (g.files disk) (logs.series.keys ++ more)
   pub handed_out : g.handed_out disk ≡ g.handed_out logs.disk

@@ -19,13 +19,13 @@ use shard_disk::Disk;
 pub fn histories_go_on<D: Disk>()
     ensures begins { (disk : D) (logs : Logs D) (state : State) → LeavesOnly (λ (c : Directory). Stands c state) (D.crashes disk) (D.crashes logs.disk)
         → IsOpened D.Disk state logs → Ran D.Disk logs state (D.crashes disk).moment [] [] None }
-    ensures on { (old new : Logs D) (start : State) (since : ℕ) (made : List Made) (refused : List Entry) (doubt : Option Entry) (books : Books)
+    ensures on { (old new : Logs D) (start : State) (since : ℕ) (made : List Made) (refused : List Attempt) (doubt : Option Entry) (books : Books)
         → Ran D.Disk old start since made refused doubt → Holds D.Disk new books doubt → state_in books ≡ state_after start (entries_of made)
         → LeavesOnly (StandsWithAtMost (state_after start (entries_of made)) (option_to_list doubt)) (D.crashes old.disk) (D.crashes new.disk)
         → Ran D.Disk new start since made refused doubt }
-    ensures number { (logs : Logs D) (start : State) (since : ℕ) (made : List Made) (refused : List Entry) (doubt : Option Entry)
+    ensures number { (logs : Logs D) (start : State) (since : ℕ) (made : List Made) (refused : List Attempt) (doubt : Option Entry)
         → Ran D.Disk logs start since made refused doubt → logs.number ≡ start.number + length made }
-    ensures now { (logs : Logs D) (start : State) (since : ℕ) (made : List Made) (refused : List Entry) (doubt : Option Entry)
+    ensures now { (logs : Logs D) (start : State) (since : ℕ) (made : List Made) (refused : List Attempt) (doubt : Option Entry)
         → Ran D.Disk logs start since made refused doubt → (c : Directory) → (D.crashes logs.disk).now c
         → StandsWithAtMost (state_after start (entries_of made)) (option_to_list doubt) c }
 {}
@@ -34,9 +34,9 @@ pub fn histories_go_on<D: Disk>()
 /// refused, and each since the moment of an entry has that entry. A disk is sound as it is opened, where the logs on it were left as
 /// they were and where it reads what a crash left. It stands for one state.
 pub fn crashes_keep_entries<D: Disk>()
-    ensures prefix { (disk : D) (start : State) (since : ℕ) (made : List Made) (refused : List Entry) → Survives (D.crashes disk) start since made refused
+    ensures prefix { (disk : D) (start : State) (since : ℕ) (made : List Made) (refused : List Attempt) → Survives (D.crashes disk) start since made refused
         → (c : Directory) → (D.crashes disk).since since c → StandsForPrefix start (entries_of made) refused 0 c }
-    ensures has_entry { (disk : D) (start : State) (since : ℕ) (before : List Made) (m : Made) (behind : List Made) (refused : List Entry)
+    ensures has_entry { (disk : D) (start : State) (since : ℕ) (before : List Made) (m : Made) (behind : List Made) (refused : List Attempt)
         → Survives (D.crashes disk) start since (before ++ m ∷ behind) refused
         → (c : Directory) → (D.crashes disk).since m.moment c → StandsForPrefix start (entries_of (before ++ m ∷ behind)) refused (length before + 1) c }
     ensures left { (logs : Logs D) (books : Books) (doubt : Option Entry) → IsTrue D.tells → Holds D.Disk logs books doubt

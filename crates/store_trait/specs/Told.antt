@@ -12,6 +12,10 @@ pub record Limits : Type 0 where
   pub series : List (List ℕ)
   pub most_series : ℕ
 
+-- an entry that was refused, behind the number of the last entry then
+abbrev pub Attempt : Type 0
+Attempt = ℕ × Entry
+
 -- What a store tells.
 pub record Told : Type 0 where
   -- the client that its writes are of
@@ -32,8 +36,9 @@ pub record Told : Type 0 where
   pub series : ℕ
   -- the loans that are out: one for each view that was begun and not ended
   pub out : List ℕ
-  -- the entries that it was asked for and refused by a fault or for want of memory: a crash may leave one of them
-  pub tried : List Entry
+  -- the entries that it was asked for and refused by a fault or for want of memory, each with its place: a crash may leave one of them,
+  -- behind exactly the entries up to that number
+  pub tried : List Attempt
 
 -- the points and the number behind all entries that it knows
 abbrev pub state_now : Told → State
@@ -75,14 +80,14 @@ pub record IsAlike (old new : Told) : Type 0 where
   pub tried : new.tried ≡ old.tried
 
 -- Of the entries that are told as tried each was told so before, or it is the one asked for, which may have been tried.
-abbrev pub TriesAtMost : Entry → Type 0 → List Entry → List Entry → Type 0
-TriesAtMost asked may old new = (entry : Entry) → Contains new entry → Contains old entry ⊎ (may × (asked ≡ entry))
+abbrev pub TriesAtMost : Attempt → Type 0 → List Attempt → List Attempt → Type 0
+TriesAtMost asked may old new = (attempt : Attempt) → Contains new attempt → Contains old attempt ⊎ (may × (asked ≡ attempt))
 
--- An entry was refused: none was made, and no view begun or ended.
+-- An entry was refused behind all entries that the store then knows: none was made, and no view begun or ended.
 pub record Refuses (asked : Entry) (may_be_tried : Type 0) (old new : Told) : Type 0 where
   pub own : new.own ≡ old.own
   pub out : new.out ≡ old.out
-  pub tried : TriesAtMost asked may_be_tried old.tried new.tried
+  pub tried : TriesAtMost ((state_now new).number, asked) may_be_tried old.tried new.tried
 
 -- how many points the entries wrote
 abbrev pub points_in : Entry → ℕ

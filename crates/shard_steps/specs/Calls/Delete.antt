@@ -6,7 +6,7 @@ use Rattle.point_model.specs.Histories.{State, state_after}
 use Rattle.point_model.specs.declared.deletion.Deletion.{Deletion}
 use Rattle.point_model.specs.declared.entry.Entry.{Entry}
 use Rattle.point_model.specs.declared.entry.Entry.TheVariants.{Delete}
-use Rattle.shard_state.specs.History.{Made}
+use Rattle.shard_state.specs.History.{Attempt, Made}
 use Rattle.wal_store.specs.Segments.{last_number}
 use Rattle.store_trait.specs.declared.fault.DeleteFault.{DeleteFault}
 use Rattle.store_trait.specs.declared.fault.DeleteFault.TheVariants as fault
@@ -37,10 +37,10 @@ HasCause shard old new fault.Fault = Failed old new × (shard.logs.number < last
 -- The step of a history: the deletion becomes its last entry and none is in doubt, or a refusal leaves its entries. A deletion that
 -- the last number refuses changes nothing.
 pub record GoesOn {D R W : Type 0} (g : Ghosts D R W) (client : ℕ) (deletion : Deletion) (old new : Shard D) (result : Result ℕ DeleteFault) : Type 0 where
-  pub ok : OnOk result (IsTrue g.tells → (start : State) (since : ℕ) (made : List Made) (refused : List Entry) (doubt : Option Entry) → Runs g old start since made refused doubt
+  pub ok : OnOk result (IsTrue g.tells → (start : State) (since : ℕ) (made : List Made) (refused : List Attempt) (doubt : Option Entry) → Runs g old start since made refused doubt
       → Runs g new start since (made ++ record { entry = Delete client deletion; moment = (g.crashes new.logs.disk).moment } ∷ []) refused None)
-  pub stays : OnErr result (IsTrue g.tells → (start : State) (since : ℕ) (made : List Made) (refused : List Entry) (doubt : Option Entry) → Runs g old start since made refused doubt
-      → (tried : List Entry) × (left : Option Entry) × IsTried (IsErrOf result fault.Fault) (Delete client deletion) refused doubt tried left × Runs g new start since made tried left)
+  pub stays : OnErr result (IsTrue g.tells → (start : State) (since : ℕ) (made : List Made) (refused : List Attempt) (doubt : Option Entry) → Runs g old start since made refused doubt
+      → (tried : List Attempt) × (left : Option Entry) × IsTried (IsErrOf result fault.Fault) old.logs.number (Delete client deletion) refused doubt tried left × Runs g new start since made tried left)
   pub untouched : IfErr result (λ e. e ≡ fault.HistoryFull → new ≡ old)
 
 -- no answer but a fault changes the health of the disk

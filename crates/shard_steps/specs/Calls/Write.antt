@@ -11,7 +11,7 @@ use Rattle.store_trait.specs.declared.fault.WriteFault.{WriteFault}
 use Rattle.store_trait.specs.declared.fault.WriteFault.TheVariants as fault
 use Rattle.shard_state.specs.declared.prepare.Prepared.{Prepared}
 use Rattle.shard_state.specs.Engine.{IsLeftEntry, IsRecordOf, MayEnter, series_in}
-use Rattle.shard_state.specs.History.{Made}
+use Rattle.shard_state.specs.History.{Attempt, Made}
 use Rattle.shard_state.specs.Meaning.{AreHeld}
 use Rattle.wal_store.specs.Segments.{last_number}
 use Rattle.shard_steps.specs.declared.shard.Shard.{Shard}
@@ -25,11 +25,11 @@ pub record Keeps {D : Type 0} (old new : Shard D) : Type 0 where
   pub more : List (List ℕ)
   pub series : new.logs.series.keys ≡ old.logs.series.keys ++ more
 
--- What a refusal leaves of those that were refused and of the one in doubt: either a log was touched, and the entry is among the
--- refused and after a fault maybe in doubt; or nothing has changed.
-pub data IsTried (fault : Type 0) (entry : Entry) (refused : List Entry) (doubt : Option Entry) (tried : List Entry) (left : Option Entry) : Type 0 where
-  Untouched : tried ≡ refused → left ≡ doubt → IsTried fault entry refused doubt tried left
-  Touched : tried ≡ refused ++ entry ∷ [] → IsLeftEntry fault doubt entry left → IsTried fault entry refused doubt tried left
+-- What a refusal behind this number leaves of those that were refused and of the one in doubt: either a log was touched, and the entry is
+-- among the refused and after a fault maybe in doubt; or nothing has changed.
+pub data IsTried (fault : Type 0) (number : ℕ) (entry : Entry) (refused : List Attempt) (doubt : Option Entry) (tried : List Attempt) (left : Option Entry) : Type 0 where
+  Untouched : tried ≡ refused → left ≡ doubt → IsTried fault number entry refused doubt tried left
+  Touched : tried ≡ refused ++ (number, entry) ∷ [] → IsLeftEntry fault doubt entry left → IsTried fault number entry refused doubt tried left
 
 -- neither a conflict nor the last number refuses the batch
 pub record IsOpen {D : Type 0} (points : List Point) (shard : Shard D) : Type 0 where
@@ -75,10 +75,10 @@ AddsSeries points old new = (new ≡ old) ⊎ ((more : List (List ℕ)) × AreUn
 -- the step of a history: the entry becomes its last and none is in doubt, or a refusal leaves its entries. A
 -- batch that a conflict, the last number or a limit refuses changes nothing, and no other series than its own are added.
 pub record GoesOn {D R W : Type 0} (g : Ghosts D R W) (client : ℕ) (points : List Point) (old new : Shard D) (result : Result ℕ WriteFault) : Type 0 where
-  pub ok : OnOk result (IsTrue g.tells → (start : State) (since : ℕ) (made : List Made) (refused : List Entry) (doubt : Option Entry) → Runs g old start since made refused doubt
+  pub ok : OnOk result (IsTrue g.tells → (start : State) (since : ℕ) (made : List Made) (refused : List Attempt) (doubt : Option Entry) → Runs g old start since made refused doubt
       → Runs g new start since (made ++ record { entry = Write client points; moment = (g.crashes new.logs.disk).moment } ∷ []) refused None)
-  pub stays : OnErr result (IsTrue g.tells → (start : State) (since : ℕ) (made : List Made) (refused : List Entry) (doubt : Option Entry) → Runs g old start since made refused doubt
-      → (tried : List Entry) × (left : Option Entry) × IsTried (IsErrOf result fault.Fault) (Write client points) refused doubt tried left × Runs g new start since made tried left)
+  pub stays : OnErr result (IsTrue g.tells → (start : State) (since : ℕ) (made : List Made) (refused : List Attempt) (doubt : Option Entry) → Runs g old start since made refused doubt
+      → (tried : List Attempt) × (left : Option Entry) × IsTried (IsErrOf result fault.Fault) old.logs.number (Write client points) refused doubt tried left × Runs g new start since made tried left)
   pub untouched : IfErr result (λ e. IsDecided e → new ≡ old)
   pub series : AddsSeries points old.logs.series.keys new.logs.series.keys
   pub handed_out : g.handed_out new.logs.disk ≡ g.handed_out old.logs.disk
@@ -121,10 +121,10 @@ IsTrouble old new fault.Fault = Failed old new
 
 -- the step of a history: the entry becomes its last and none is in doubt, or a refusal leaves its entries
 pub record Steps {D R W : Type 0} (g : Ghosts D R W) (client : ℕ) (points : List Point) (old new : Shard D) (result : Result ℕ WriteFault) : Type 0 where
-  pub ok : OnOk result (IsTrue g.tells → (start : State) (since : ℕ) (made : List Made) (refused : List Entry) (doubt : Option Entry) → Runs g old start since made refused doubt
+  pub ok : OnOk result (IsTrue g.tells → (start : State) (since : ℕ) (made : List Made) (refused : List Attempt) (doubt : Option Entry) → Runs g old start since made refused doubt
       → Runs g new start since (made ++ record { entry = Write client points; moment = (g.crashes new.logs.disk).moment } ∷ []) refused None)
-  pub stays : OnErr result (IsTrue g.tells → (start : State) (since : ℕ) (made : List Made) (refused : List Entry) (doubt : Option Entry) → Runs g old start since made refused doubt
-      → (tried : List Entry) × (left : Option Entry) × IsTried (IsErrOf result fault.Fault) (Write client points) refused doubt tried left × Runs g new start since made tried left)
+  pub stays : OnErr result (IsTrue g.tells → (start : State) (since : ℕ) (made : List Made) (refused : List Attempt) (doubt : Option Entry) → Runs g old start since made refused doubt
+      → (tried : List Attempt) × (left : Option Entry) × IsTried (IsErrOf result fault.Fault) old.logs.number (Write client points) refused doubt tried left × Runs g new start since made tried left)
 
 -- The entry is in the logs and its points are set; or a refusal left the points and the number, and maybe the new series.
 pub record Commits {D R W : Type 0} (g : Ghosts D R W) (client : ℕ) (points : List Point) (prepared : Prepared) (old now : Shard D) (result : Result ℕ WriteFault) : Type 0 where
