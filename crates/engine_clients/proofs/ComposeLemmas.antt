@@ -23,6 +23,7 @@ use Rattle.history_turn.proofs.OwnedLemmas.{weigh-append}
 use Rattle.shard_calls.specs.Told.{limits_of}
 use Rattle.shard_steps.specs.Shards.{state_of}
 use Rattle.shard_steps.specs.declared.shard.Shard.{Shard}
+use Rattle.shard_state.specs.History.{Attempt}
 use Rattle.shard_calls.specs.Attempts.{entry_tried}
 use Rattle.shard_shared.specs.Entries.{entries_in, faults_lent, most_found, tried_lent, views_lent}
 use Rattle.shard_shared.specs.Told.{limits_at, state_at}
@@ -85,8 +86,8 @@ pub tried-append : (xs ys : List Lent) → tried_lent (xs ++ ys) ≡ tried_lent 
 tried-append [] ys = refl
 tried-append (View ∷ xs) ys = tried-append xs ys
 tried-append (Fault ∷ xs) ys = tried-append xs ys
-tried-append (Found refusal ∷ xs) ys = ap (λ (es : List Entry). entry_tried refusal.client refusal.tried ++ es) (tried-append xs ys)
-    ∙ sym (append_assoc (entry_tried refusal.client refusal.tried) (tried_lent xs) (tried_lent ys))
+tried-append (Found refusal ∷ xs) ys = ap (λ (l : List Attempt). entry_tried refusal.client refusal.number refusal.tried ++ l) (tried-append xs ys)
+    ∙ sym (append_assoc (entry_tried refusal.client refusal.number refusal.tried) (tried_lent xs) (tried_lent ys))
 
 pub views-append : (xs ys : List Lent) → views_lent (xs ++ ys) ≡ views_lent xs ++ views_lent ys
 views-append [] ys = refl
@@ -180,7 +181,7 @@ module _ {D R W S K C : Type 0} (g : Ghosts D R W) (members : Devices S K C) whe
       pub views : views_lent (flat_map loans_of mids) ≡ []
       pub faults : min (faults_in (flat_map all_answers (map (λ part. part.dialogue) parts))) last_count ≤ faults_lent (flat_map loans_of mids)
       pub quiet : faults_in (flat_map all_answers (map (λ part. part.dialogue) parts)) ≡ 0 → faults_lent (flat_map loans_of mids) ≡ 0
-      pub asked : (entry : Entry) → Contains (tried_lent (flat_map loans_of mids)) entry → IsTriedIn client (map (λ part. part.dialogue) parts) entry
+      pub asked : (attempt : Attempt) → Contains (tried_lent (flat_map loans_of mids)) attempt → IsTriedIn client (map (λ part. part.dialogue) parts) attempt
 
     pub composed : (client : ℕ) (olds mids : List (Served D S K C)) → seat.view.start ≡ Some start → seat.view.own ≡ [] → seat.view.loans ≡ []
         → ServeEach g members client (map (seated_with seat) olds) mids → All (λ mid. StartsWith entries (seen_of mid)) mids → Composes client olds mids
@@ -196,7 +197,7 @@ module _ {D R W S K C : Type 0} (g : Ghosts D R W) (members : Devices S K C) whe
       views = refl;
       faults = omega arith;
       quiet = λ none. refl;
-      asked = λ entry at. absurd (let below = at.1 in omega (arith, below));
+      asked = λ attempt at. absurd (let below = at.1 in omega (arith, below));
     }
     composed client (old ∷ olds) [] from no_own no_loan each seen = absurd each
     composed client [] (mid ∷ mids) from no_own no_loan each seen = absurd each
@@ -263,14 +264,14 @@ module _ {D R W S K C : Type 0} (g : Ghosts D R W) (members : Devices S K C) whe
               let more : faults_lent (flat_map loans_of mids) ≡ 0 =
               rest.quiet (none_second (faults_in (all_answers session.dialogue)) (faults_in (flat_map all_answers (map (λ (p : Part). p.dialogue) rest.parts))) none_of) in
               loans_both ∙ none_both (faults_lent (loans_of mid)) (faults_lent (flat_map loans_of mids)) (faults_here ∙ here) more;
-          asked = λ entry at. ⊎_elim
+          asked = λ attempt at. ⊎_elim
               (λ mine. ⊎_elim
-              (λ before. absurd (let below = (subst (λ (l : List Lent). Contains (tried_lent l) entry) no_loans before).1 in omega (arith, below)))
+              (λ before. absurd (let below = (subst (λ (l : List Lent). Contains (tried_lent l) attempt) no_loans before).1 in omega (arith, below)))
               inl
-              (is.tried entry (subst (λ (l : List Lent). Contains (tried_lent l) entry) loans_here mine)))
-              (λ others. inr (rest.asked entry others))
-              (Contains-append_cases (tried_lent (loans_of mid)) (tried_lent (flat_map loans_of mids)) entry
-              (subst (λ (es : List Entry). Contains es entry) (tried-append (loans_of mid) (flat_map loans_of mids)) at));
+              (is.tried attempt (subst (λ (l : List Lent). Contains (tried_lent l) attempt) loans_here mine)))
+              (λ others. inr (rest.asked attempt others))
+              (Contains-append_cases (tried_lent (loans_of mid)) (tried_lent (flat_map loans_of mids)) attempt
+              (subst (λ (l : List Attempt). Contains l attempt) (tried-append (loans_of mid) (flat_map loans_of mids)) at));
         }
 
     -- the numbers that the passes own together are those of the entries, each once: so is each number that was told

@@ -1,12 +1,12 @@
--- What the engine noted as tried, its clients have among their loans: entries are told apart by their codes.
+-- What the engine noted as tried, its clients have among their loans: attempts are told apart by their codes.
 use Rattle.std.proofs.Common.{◌≡◌, ◌∙◌, ℕ, ◌+◌, ◌≤◌, zero, suc, Bool, true, false, ◌&&◌, eqb, eq-eqb, eqb-true, List, [], ◌∷◌, ◌++◌, map, replicate, refl, sym, ap, subst, arith, Contains, ◌⊎◌, inl, inr, ⊎_elim}
 use Rattle.std.specs.Coded.{Coded, codes}
 use Rattle.std.proofs.lemmas.Bool.{false≢true}
 use Rattle.std.proofs.lemmas.List.Elements.{Contains-append_cases, Contains-append_left, Contains-append_right, Contains-push, Contains-push_cases}
 use base.Stored.{Gv, gnil, gnum, gcons}
 use Rattle.point_model.specs.ConditionCode.{condition_code}
-use Rattle.point_model.specs.declared.entry.Entry.{Entry}
 use Rattle.history_turn.specs.Owned.{SameItems, weigh}
+use Rattle.shard_state.specs.History.{Attempt}
 use Rattle.shard_calls.specs.Attempts.{entry_tried}
 use Rattle.shard_shared.specs.Entries.{lent_by, tried_in, tried_lent}
 use Rattle.shard_shared.specs.declared.engine.Lent.{Lent}
@@ -57,82 +57,82 @@ code_is (gcons a b) (gnum n) same = absurd (false≢true same)
 code_is (gcons a b) (gcons c d) same =
     ap (λ (x : Gv). gcons x b) (code_is a c (first_true (same_code a c) (same_code b d) same)) ∙ ap (λ (x : Gv). gcons c x) (code_is b d (second_true (same_code a c) (same_code b d) same))
 
-entry_code : Coded Entry
-entry_code = Prim.hlevel (codes, condition_code)
+attempt_code : Coded Attempt
+attempt_code = Prim.hlevel (codes, condition_code)
 
-abbrev same_entry : Entry → Entry → Bool
-same_entry a b = same_code (entry_code.code a) (entry_code.code b)
+abbrev same_attempt : Attempt → Attempt → Bool
+same_attempt a b = same_code (attempt_code.code a) (attempt_code.code b)
 
--- ---- how often an entry stands in a list
+-- ---- how often an attempt stands in a list
 
 abbrev once : Bool → ℕ
 once true = 1
 once false = 0
 
-abbrev times : Entry → List Entry → ℕ
-times entry [] = 0
-times entry (other ∷ entries) = once (same_entry entry other) + times entry entries
+abbrev times : Attempt → List Attempt → ℕ
+times attempt [] = 0
+times attempt (other ∷ attempts) = once (same_attempt attempt other) + times attempt attempts
 
-times-append : (entry : Entry) (xs ys : List Entry) → times entry (xs ++ ys) ≡ times entry xs + times entry ys
-times-append entry [] ys = omega arith
-times-append entry (x ∷ xs) ys = let more = times-append entry xs ys in omega (arith, more)
+times-append : (attempt : Attempt) (xs ys : List Attempt) → times attempt (xs ++ ys) ≡ times attempt xs + times attempt ys
+times-append attempt [] ys = omega arith
+times-append attempt (x ∷ xs) ys = let more = times-append attempt xs ys in omega (arith, more)
 
 by_test : {C : Type 0} (b : Bool) → (b ≡ true → C) → (b ≡ false → C) → C
 by_test true holds fails = holds refl
 by_test false holds fails = fails refl
 
-there_some : (entry : Entry) (entries : List Entry) → 1 ≤ times entry entries → Contains entries entry
-there_some entry [] least = absurd (omega (arith, least))
-there_some entry (other ∷ entries) least = by_test (same_entry entry other)
-    (λ same. subst (λ (e : Entry). Contains (other ∷ entries) e) (sym (entry_code.inj entry other (code_is (entry_code.code entry) (entry_code.code other) same)))
-    (Contains-append_left (other ∷ []) entries other (Contains-push [] other)))
+there_some : (attempt : Attempt) (attempts : List Attempt) → 1 ≤ times attempt attempts → Contains attempts attempt
+there_some attempt [] least = absurd (omega (arith, least))
+there_some attempt (other ∷ attempts) least = by_test (same_attempt attempt other)
+    (λ same. subst (λ (a : Attempt). Contains (other ∷ attempts) a) (sym (attempt_code.inj attempt other (code_is (attempt_code.code attempt) (attempt_code.code other) same)))
+    (Contains-append_left (other ∷ []) attempts other (Contains-push [] other)))
     (λ none.
-    let here : once (same_entry entry other) ≡ 0 = ap once none in
-    Contains-append_right (other ∷ []) entries entry (there_some entry entries (omega (arith, least, here))))
+    let here : once (same_attempt attempt other) ≡ 0 = ap once none in
+    Contains-append_right (other ∷ []) attempts attempt (there_some attempt attempts (omega (arith, least, here))))
 
-some_there : (entry : Entry) (entries : List Entry) → Contains entries entry → 1 ≤ times entry entries
-some_there entry [] at = absurd (let below = at.1 in omega (arith, below))
-some_there entry (other ∷ entries) at = ⊎_elim
+some_there : (attempt : Attempt) (attempts : List Attempt) → Contains attempts attempt → 1 ≤ times attempt attempts
+some_there attempt [] at = absurd (let below = at.1 in omega (arith, below))
+some_there attempt (other ∷ attempts) at = ⊎_elim
     (λ first. ⊎_elim (λ none. absurd (let below = none.1 in omega (arith, below)))
     (λ is.
-    let here : once (same_entry entry other) ≡ 1 = ap once (subst (λ (e : Entry). same_entry entry e ≡ true) (sym is) (code_of_itself (entry_code.code entry))) in
+    let here : once (same_attempt attempt other) ≡ 1 = ap once (subst (λ (a : Attempt). same_attempt attempt a ≡ true) (sym is) (code_of_itself (attempt_code.code attempt))) in
     omega (arith, here))
-    (Contains-push_cases [] other entry first))
-    (λ behind. let more = some_there entry entries behind in omega (arith, more))
-    (Contains-append_cases (other ∷ []) entries entry at)
+    (Contains-push_cases [] other attempt first))
+    (λ behind. let more = some_there attempt attempts behind in omega (arith, more))
+    (Contains-append_cases (other ∷ []) attempts attempt at)
 
 -- ---- loans
 
--- how often a loan tried the entry
-abbrev tried_by : Entry → Lent → ℕ
-tried_by entry View = 0
-tried_by entry Fault = 0
-tried_by entry (Found refusal) = times entry (entry_tried refusal.client refusal.tried)
+-- how often a loan tried the attempt
+abbrev tried_by : Attempt → Lent → ℕ
+tried_by attempt View = 0
+tried_by attempt Fault = 0
+tried_by attempt (Found refusal) = times attempt (entry_tried refusal.client refusal.number refusal.tried)
 
-weigh_mine : (entry : Entry) (loans : List Lent) → weigh (tried_by entry) loans ≡ times entry (tried_lent loans)
-weigh_mine entry [] = refl
-weigh_mine entry (View ∷ loans) = let more = weigh_mine entry loans in omega (arith, more)
-weigh_mine entry (Fault ∷ loans) = let more = weigh_mine entry loans in omega (arith, more)
-weigh_mine entry (Found refusal ∷ loans) =
-    let more = weigh_mine entry loans in let both = times-append entry (entry_tried refusal.client refusal.tried) (tried_lent loans) in omega (arith, more, both)
+weigh_mine : (attempt : Attempt) (loans : List Lent) → weigh (tried_by attempt) loans ≡ times attempt (tried_lent loans)
+weigh_mine attempt [] = refl
+weigh_mine attempt (View ∷ loans) = let more = weigh_mine attempt loans in omega (arith, more)
+weigh_mine attempt (Fault ∷ loans) = let more = weigh_mine attempt loans in omega (arith, more)
+weigh_mine attempt (Found refusal ∷ loans) =
+    let more = weigh_mine attempt loans in let both = times-append attempt (entry_tried refusal.client refusal.number refusal.tried) (tried_lent loans) in omega (arith, more, both)
 
-weigh_noted : (entry : Entry) (refusals : List Refusal) → weigh (tried_by entry) (map Found refusals) ≡ times entry (tried_in refusals)
-weigh_noted entry [] = refl
-weigh_noted entry (refusal ∷ refusals) =
-    let more = weigh_noted entry refusals in let both = times-append entry (entry_tried refusal.client refusal.tried) (tried_in refusals) in omega (arith, more, both)
+weigh_noted : (attempt : Attempt) (refusals : List Refusal) → weigh (tried_by attempt) (map Found refusals) ≡ times attempt (tried_in refusals)
+weigh_noted attempt [] = refl
+weigh_noted attempt (refusal ∷ refusals) =
+    let more = weigh_noted attempt refusals in let both = times-append attempt (entry_tried refusal.client refusal.number refusal.tried) (tried_in refusals) in omega (arith, more, both)
 
-weigh_none : (entry : Entry) (loan : Lent) (count : ℕ) → tried_by entry loan ≡ 0 → weigh (tried_by entry) (replicate count loan) ≡ 0
-weigh_none entry loan zero none = refl
-weigh_none entry loan (suc count) none = let more = weigh_none entry loan count none in omega (arith, none, more)
+weigh_none : (attempt : Attempt) (loan : Lent) (count : ℕ) → tried_by attempt loan ≡ 0 → weigh (tried_by attempt) (replicate count loan) ≡ 0
+weigh_none attempt loan zero none = refl
+weigh_none attempt loan (suc count) none = let more = weigh_none attempt loan count none in omega (arith, none, more)
 
 -- what the engine noted as tried is among the loans of its clients
-pub tried_told : (views faults : ℕ) (refusals : List Refusal) (loans : List Lent) → SameItems loans (lent_by views faults refusals) → (entry : Entry) → Contains (tried_in refusals) entry → Contains (tried_lent loans) entry
-tried_told views faults refusals loans same entry at =
-    let some = some_there entry (tried_in refusals) at in
-    let all = same.same (tried_by entry) in
-    let whole = weigh-lent (tried_by entry) views faults refusals in
-    let a = weigh_none entry View views refl in
-    let b = weigh_none entry Fault faults refl in
-    let c = weigh_noted entry refusals in
-    let mine = weigh_mine entry loans in
-    there_some entry (tried_lent loans) (omega (arith, some, all, whole, a, b, c, mine))
+pub tried_told : (views faults : ℕ) (refusals : List Refusal) (loans : List Lent) → SameItems loans (lent_by views faults refusals) → (attempt : Attempt) → Contains (tried_in refusals) attempt → Contains (tried_lent loans) attempt
+tried_told views faults refusals loans same attempt at =
+    let some = some_there attempt (tried_in refusals) at in
+    let all = same.same (tried_by attempt) in
+    let whole = weigh-lent (tried_by attempt) views faults refusals in
+    let a = weigh_none attempt View views refl in
+    let b = weigh_none attempt Fault faults refl in
+    let c = weigh_noted attempt refusals in
+    let mine = weigh_mine attempt loans in
+    there_some attempt (tried_lent loans) (omega (arith, some, all, whole, a, b, c, mine))

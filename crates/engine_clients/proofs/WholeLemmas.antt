@@ -16,7 +16,8 @@ use Rattle.history_turn.specs.Views.{cut, newcomer, part_of}
 use Rattle.history_turn.proofs.HistoriesLemmas.{starts_trans}
 use Rattle.shard_calls.specs.Holds.{HasRun}
 use Rattle.shard_calls.specs.Told.{limits_of}
-use Rattle.shard_state.specs.History.{Made, entries_of}
+use Rattle.shard_calls.proofs.StoreLemmas.{holds_nothing}
+use Rattle.shard_state.specs.History.{Attempt, Made, entries_of}
 use Rattle.shard_steps.specs.Shards.{IsReady, Runs, state_of}
 use Rattle.shard_steps.specs.declared.shard.Shard.{Shard}
 use Rattle.shard_shared.specs.Entries.{entries_in, faults_lent, lent_by, made_by, most_found, refusals_in, tried_in, tried_lent, views_lent}
@@ -56,12 +57,12 @@ module _ {D R W : Type 0} (g : Ghosts D R W) where
   as_state shard number = record { points = shard.live.points; number = number }
 
   -- it came from itself to no entry
-  pub comes_to_none : (shard : Shard D) → IsReady g shard → ComesTo g shard 0 [] shard
+  pub comes_to_none : (shard : Shard D) → IsReady g shard → ComesTo g shard 0 [] [] shard
   comes_to_none shard ready = record {
     ready = ready;
     state = ap (λ (n : ℕ). as_state shard n) (omega arith);
     settings = refl;
-    series = record { more = []; from_start = sym (append-nil shard.logs.series.keys); written = λ text wrote. absurd (omega (arith, wrote.2)) };
+    series = holds_nothing shard.logs.series.keys;
     handed_out = refl;
     health = record { ages = record { later = omega arith; steady = λ steady. refl }; counted = omega arith; quiet = λ none. refl };
   }
@@ -173,8 +174,8 @@ module _ {D R W S K C : Type 0} (g : Ghosts D R W) (members : Devices S K C) (st
   faults_told : (it : Comes) → faults_lent (flat_map loans_of mids) ≡ left.faults
   faults_told it = sym (ap faults_lent (all_loans it)) ∙ faults_are last.view.loans left.shard.views left.faults (refusals_in left.found.items) it.closes.loans
 
-  comes_to : (it : Comes) → ComesTo g start left.faults it.closes.entries left.shard
-  comes_to it = subst (λ (s : Option (Shard D)). ComesFrom g s left.faults it.closes.entries left.shard) (from_start it) it.closes.stands_for.0
+  comes_to : (it : Comes) → ComesTo g start left.faults (tried_in (refusals_in left.found.items)) it.closes.entries left.shard
+  comes_to it = subst (λ (s : Option (Shard D)). ComesFrom g s left.faults (tried_in (refusals_in left.found.items)) it.closes.entries left.shard) (from_start it) it.closes.stands_for.0
 
   -- no client was told of more series than the engine holds
   few_found : (it : Comes) → most_found (flat_map loans_of mids) ≤ length left.shard.logs.series.keys
@@ -188,9 +189,9 @@ module _ {D R W S K C : Type 0} (g : Ghosts D R W) (members : Devices S K C) (st
   -- what the engine tried, a client asked for and was refused
   tried_for : (it : Comes) (together : Composes g members start it.closes.entries seat 0 olds mids)
       → AllByRecursion (IsTriedIn 0 (map (λ (p : Part). p.dialogue) together.parts)) (tried_in (refusals_in left.found.items))
-  tried_for it together = each_in (IsTriedIn 0 (map (λ (p : Part). p.dialogue) together.parts)) (tried_in (refusals_in left.found.items)) (λ entry at.
-      together.asked entry (subst (λ (l : List Lent). Contains (tried_lent l) entry) (all_loans it)
-      (tried_told left.shard.views left.faults (refusals_in left.found.items) last.view.loans it.closes.loans entry at)))
+  tried_for it together = each_in (IsTriedIn 0 (map (λ (p : Part). p.dialogue) together.parts)) (tried_in (refusals_in left.found.items)) (λ attempt at.
+      together.asked attempt (subst (λ (l : List Lent). Contains (tried_lent l) attempt) (all_loans it)
+      (tried_told left.shard.views left.faults (refusals_in left.found.items) last.view.loans it.closes.loans attempt at)))
 
   numbers : (it : Comes) → SameItems last.view.own (numbers_after (state_of start).number (length it.closes.entries))
   numbers it = subst (λ (s : Option (Shard D)). SameItems last.view.own (numbers_after (number_at s) (length it.closes.entries))) (from_start it) it.closes.own

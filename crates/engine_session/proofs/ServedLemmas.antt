@@ -1,5 +1,5 @@
 -- A session over the store of one engine is explained by its history, and the closed disk has it.
-use Rattle.std.proofs.Common.{◌≡◌, ℕ, ◌+◌, ◌≤◌, min, Bool, true, List, [], ◌∷◌, ◌++◌, length, refl, sym, ap, ◌∙◌, subst, arith, Option, Some, None, IsPermutation, Contains, Any, ◌⊎◌, inl, inr, ⊎_elim}
+use Rattle.std.proofs.Common.{◌≡◌, ℕ, ◌+◌, ◌≤◌, min, Bool, true, List, [], ◌∷◌, ◌++◌, length, refl, sym, ap, ◌∙◌, subst, arith, Option, Some, None, IsPermutation, Contains, ◌⊎◌, inl, inr, ⊎_elim}
 use Rattle.std.specs.Prelude.{IsTrue, OnErr, OnOk, Result}
 use Rattle.std.specs.declared.result.Result.TheVariants.{Ok, Err}
 use Rattle.std.specs.List.{AllByRecursion}
@@ -16,16 +16,16 @@ use Rattle.point_model.specs.declared.entry.Entry.{Entry}
 use Rattle.store_trait.specs.Told.{IsAlike, Keeps, Limits, OwnsAll, Told, numbers_from as store_numbers, state_now}
 use Rattle.engine_session.proofs.LookLemmas.{look_makes_none}
 use Rattle.session_io.specs.declared.report.Report.{Report}
-use Rattle.session_model.specs.Machine.{Answer, TriesEntry}
+use Rattle.session_model.specs.Machine.{Answer}
 use Rattle.session_model.specs.Replies.{accepted}
-use Rattle.session_model.specs.Explained.{Dialogue, ExplainedBut, IsTold, IsTriedIn, Records, TakePlaces, Transcript, all_answers, own_numbers, numbers_from}
+use Rattle.session_model.specs.Explained.{Dialogue, ExplainedBut, IsTold, IsTriedIn, Records, TakePlaces, Transcript, TriesBehind, all_answers, own_numbers, numbers_from}
 use Rattle.session_loop.specs.Sessions.{IsDialogue, IsSession, Told as Client, faults_in}
 use Rattle.session_loop.specs.Steps.{HasCause, HasCauseAt, Stored}
 use Rattle.session_loop.proofs.StepLemmas.{given_in}
 use Rattle.session_loop.proofs.MemoryLemmas.{same_numbers}
 use Rattle.shard_state.specs.Books.{state_in}
 use Rattle.shard_state.specs.Calls.{Closes}
-use Rattle.shard_state.specs.History.{AreKept, StandsForPrefix}
+use Rattle.shard_state.specs.History.{AreKept, Attempt, StandsForPrefix, WasRefused}
 use Rattle.shard_state.specs.Meaning.{NamesSeries, Stands, StandsWithAtMost}
 use Rattle.shard_state.specs.Opening.{IsSoundAtOpening, IsSoundThroughout, IsSoundWithAtMost}
 use Rattle.gate_log.proofs.Results.{on_ok_then}
@@ -52,13 +52,13 @@ pub record BeginsWith (start : State) (limits : Limits) (old : Told) : Type 0 wh
   pub own : old.own ≡ []
   pub tried : old.tried ≡ []
 
-none_in : {entry : Entry} → Contains [] entry → ⊥
+none_in : {attempt : Attempt} → Contains [] attempt → ⊥
 none_in at = let below = at.1 in omega (arith, below)
 
 -- what holds of each member of a list holds of all
-pub each_in : (P : Entry → Type 0) (entries : List Entry) → ((entry : Entry) → Contains entries entry → P entry) → AllByRecursion P entries
+pub each_in : (P : Attempt → Type 0) (attempts : List Attempt) → ((attempt : Attempt) → Contains attempts attempt → P attempt) → AllByRecursion P attempts
 each_in P [] holds = tt
-each_in P (entry ∷ entries) holds = (holds entry (Contains-append_left (entry ∷ []) entries entry (Contains-push [] entry)), each_in P entries (λ other at. holds other (Contains-append_right (entry ∷ []) entries other at)))
+each_in P (one ∷ attempts) holds = (holds one (Contains-append_left (one ∷ []) attempts one (Contains-push [] one)), each_in P attempts (λ other at. holds other (Contains-append_right (one ∷ []) attempts other at)))
 
 module _ (start : State) (limits : Limits) (held : ℕ) (old new : Stored) (transcript : Transcript) (dialogue : Dialogue) (begins : BeginsWith start limits old.told) (is : IsDialogue old new transcript dialogue)
     (few : new.told.series ≤ held) where
@@ -92,10 +92,10 @@ module _ (start : State) (limits : Limits) (held : ℕ) (old new : Stored) (tran
 
   -- what the store tells as tried, the client was refused
   pub asked_for : AllByRecursion (IsTriedIn 0 (dialogue ∷ [])) new.told.tried
-  asked_for = each_in (IsTriedIn 0 (dialogue ∷ [])) new.told.tried (λ entry at. ⊎_elim
-      (λ before. absurd (none_in (subst (λ (l : List Entry). Contains l entry) begins.tried before)))
-      (λ asked. inl (subst (λ (n : ℕ). Any (TriesEntry n entry) (all_answers dialogue)) (is.kept.client ∙ begins.client) asked))
-      (is.tried entry at))
+  asked_for = each_in (IsTriedIn 0 (dialogue ∷ [])) new.told.tried (λ attempt at. ⊎_elim
+      (λ before. absurd (none_in (subst (λ (l : List Attempt). Contains l attempt) begins.tried before)))
+      (λ asked. inl (subst (λ (n : ℕ). TriesBehind n attempt.0 attempt.1 (all_answers dialogue)) (is.kept.client ∙ begins.client) asked))
+      (is.tried attempt at))
 
   abbrev explained : ExplainedBut true (HasCause true (Some limits) held start) start new.told.history (transcript ∷ [])
   explained = record {
@@ -148,7 +148,7 @@ module _ (start : State) (limits : Limits) (before now : Client) (old new : Stor
 
 -- ---- what the disk was left with
 
-module _ {D R W : Type 0} (g : Ghosts D R W) (start : State) (since : ℕ) (history tried : List Entry) (shard : Shard D) (disk : D) (closed : Result (Unit {0}) Trouble) (closes : Closes g shard.logs disk closed) (told : IsTrue g.tells)
+module _ {D R W : Type 0} (g : Ghosts D R W) (start : State) (since : ℕ) (history : List Entry) (tried : List Attempt) (shard : Shard D) (disk : D) (closed : Result (Unit {0}) Trouble) (closes : Closes g shard.logs disk closed) (told : IsTrue g.tells)
     (ran : HasRun g start since history tried shard) where
   state_is : state_in ran.runs.logs.books ≡ state_after start history
   state_is = ran.runs.logs.is ∙ ap (λ (l : List Entry). state_after start l) ran.are
@@ -184,7 +184,7 @@ module _ {D R W : Type 0} (g : Ghosts D R W) (start : State) (since : ℕ) (hist
     refused = ran.refused;
     were_tried = ran.were_tried;
     doubt = ran.doubt;
-    asked = ran.runs.logs.asked;
+    asked = subst (λ (l : List Entry). AllByRecursion (WasRefused ran.refused (start.number + length l)) (option_to_list ran.doubt)) ran.are ran.runs.logs.asked;
     each = each;
     kept = kept;
     now = λ c now. subst (λ (s : State). StandsWithAtMost s (option_to_list ran.doubt) c) state_is (left.1 c now);
@@ -227,19 +227,20 @@ module _ {D R W : Type 0} (g : Ghosts D R W) (before now : Client) (start : Stat
       (served_from start (limits_of start first engine) held before now old new ended.report begins session few)))
 
   pub serves : ended.number ≡ (state_now last).number → (shard : Shard D) → (IsTrue g.tells → (since : ℕ) → HasRun g start since [] [] engine → HasRun g start since last.history last.tried shard)
-      → HoldsSeries first last.history shard.logs.series.keys → last.series ≡ length shard.logs.series.keys
+      → HoldsSeries first last.history last.tried shard.logs.series.keys → last.series ≡ length shard.logs.series.keys
       → Closes g shard.logs ended.disk ended.closed → new.health ≡ g.health shard.logs.disk → g.handed_out shard.logs.disk ≡ g.handed_out engine.logs.disk → Serves g one engine ended.disk ended.number ended.closed
   serves number shard ran holds_last counted_last closes left handed =
       let same = same_history start (limits_of start first engine) before now old new ended.report begins session last kept alike in
       let was_run : IsTrue g.tells → (since : ℕ) → HasRun g (state_of engine) since [] [] engine → HasRun g start since new.told.history new.told.tried shard =
       λ told since first_run. subst (λ (h : List Entry). HasRun g start since h new.told.tried shard) same
-      (subst (λ (es : List Entry). HasRun g start since last.history es shard) alike.tried (ran told since (subst (λ (s : State). HasRun g s since [] [] engine) is first_run))) in
+      (subst (λ (l : List Attempt). HasRun g start since last.history l shard) alike.tried (ran told since (subst (λ (s : State). HasRun g s since [] [] engine) is first_run))) in
       record {
         history = new.told.history;
         tried = new.told.tried;
         held = shard.logs.series.keys;
-        holds = subst (λ (l : List (List ℕ)). HoldsSeries l new.told.history shard.logs.series.keys) (sym held_first)
-            (subst (λ (h : List Entry). HoldsSeries first h shard.logs.series.keys) same holds_last);
+        holds = subst (λ (l : List (List ℕ)). HoldsSeries l new.told.history new.told.tried shard.logs.series.keys) (sym held_first)
+            (subst (λ (h : List Entry). HoldsSeries first h new.told.tried shard.logs.series.keys) same
+            (subst (λ (l : List Attempt). HoldsSeries first last.history l shard.logs.series.keys) alike.tried holds_last));
         middle = new.health;
         served = served (length shard.logs.series.keys) (let more = kept.series in omega (arith, more, counted_last));
         counted = counts start (limits_of start first engine) before now old new ended.report begins session last kept alike ended.number number ∙ ap (λ (s : State). s.number + length new.told.history) (sym is);

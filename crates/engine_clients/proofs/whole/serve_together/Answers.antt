@@ -16,8 +16,9 @@ use Rattle.engine_clients.proofs.whole.serve_together.Goals as goal
 
 pub new-requires-2-clause-stands : goal.new-requires-2-clause-stands
 new-requires-2-clause-stands g c = (
-  subst (λ (n : ℕ). ComesTo g.D.Disk c.new.result.shard n [] c.new.result.shard) (sym c.new.ensures.faults)
-      (subst (λ (s : Shard g.row.D.Denot). ComesTo g.D.Disk s 0 [] s) (sym c.new.ensures.shard) (comes_to_none g.D.Disk c.args.shard c.requires.ready)),
+  subst (λ (l : List (Snapshot Refusal)). ComesTo g.D.Disk c.new.result.shard c.new.result.faults (tried_in (refusals_in l)) [] c.new.result.shard) (sym c.new.ensures.found)
+      (subst (λ (n : ℕ). ComesTo g.D.Disk c.new.result.shard n [] [] c.new.result.shard) (sym c.new.ensures.faults)
+      (subst (λ (s : Shard g.row.D.Denot). ComesTo g.D.Disk s 0 [] [] s) (sym c.new.ensures.shard) (comes_to_none g.D.Disk c.args.shard c.requires.ready))),
   subst (λ (l : List (Snapshot Refusal)). AreFew (refusals_in l) c.new.result.shard.logs.series.keys) (sym c.new.ensures.found) tt,
   subst (λ (l : List (Snapshot Refusal)). RanFrom g.D.Disk (Some c.new.result.shard) (tried_in (refusals_in l)) [] c.new.result.shard) (sym c.new.ensures.found) (runs_to_none g.D.Disk c.new.result.shard),
 )
