@@ -1,7 +1,7 @@
 -- A history goes on: an entry is added to it, or none.
 use Rattle.std.proofs.Common.{◌≡◌, ⊎_elim, ℕ, ◌+◌, ◌≤◌, List, [], ◌∷◌, ◌++◌, length, take, drop, refl, sym, ap, ◌∙◌, subst, arith, append_assoc, length-append, length-take, take-append-drop, Option, None}
 use Rattle.std.proofs.lemmas.List.{append-nil, map-append, take_all, take_at}
-use Rattle.std.specs.Prelude.{Contains, Result}
+use Rattle.std.specs.Prelude.{Result}
 use Rattle.std.specs.List.{AllByRecursion}
 use Rattle.std.specs.Option.{option_to_list}
 use Rattle.std.proofs.lemmas.List.Elements.{Contains-append_left, Contains-push}
@@ -21,34 +21,34 @@ use Rattle.shard_state.specs.Books.{Books, IsNext, state_in, with_entry, with_se
 use Rattle.shard_state.specs.Calls.{Enters, GoesOn}
 use Rattle.shard_state.specs.Crashes.{LeavesOnly}
 use Rattle.shard_state.specs.Engine.{Holds, IsLeftEntry, MayEnter, MayFollow, series_in}
-use Rattle.shard_state.specs.History.{AreKept, Made, Ran, StandsForPrefix, Survives, entries_of}
+use Rattle.shard_state.specs.History.{AreKept, Attempt, Made, Ran, StandsForPrefix, Survives, WasRefused, entries_of}
 use Rattle.shard_state.specs.Meaning.{IsTaken, Stands, StandsWithAtMost}
 use Rattle.shard_state.proofs.Entering.{on_err_then}
 use Rattle.shard_state.proofs.Images.{image_now}
 use Rattle.shard_state.proofs.Standing.{image_stands, state_entry}
 use Rattle.shard_state.proofs.Steps.{may_be_next}
 
--- entries of a list are entries of a longer one
-asked_more : (refused other next : List Entry) → AllByRecursion (Contains refused) next → AllByRecursion (Contains (refused ++ other)) next
-asked_more refused other [] asked = tt
-asked_more refused other (e ∷ next) asked = (Contains-append_left refused other e asked.0, asked_more refused other next asked.1)
+-- what was refused behind a number was so where more was refused
+asked_more : (refused other : List Attempt) (number : ℕ) (next : List Entry) → AllByRecursion (WasRefused refused number) next → AllByRecursion (WasRefused (refused ++ other) number) next
+asked_more refused other number [] asked = tt
+asked_more refused other number (e ∷ next) asked = (Contains-append_left refused other (number, e) asked.0, asked_more refused other number next asked.1)
 
-asked_left : (refused : List Entry) (fault : Type 0) (doubt : Option Entry) (entry : Entry) (left : Option Entry) → Contains refused entry → AllByRecursion (Contains refused) (option_to_list doubt) → IsLeftEntry fault doubt entry left
-    → AllByRecursion (Contains refused) (option_to_list left)
-asked_left refused fault doubt entry left here doubts is =
-    ⊎_elim (λ none. subst (λ (o : Option Entry). AllByRecursion (Contains refused) (option_to_list o)) (sym none) tt)
-    (λ other. ⊎_elim (λ was. subst (λ (o : Option Entry). AllByRecursion (Contains refused) (option_to_list o)) (sym was) doubts)
-    (λ own. subst (λ (o : Option Entry). AllByRecursion (Contains refused) (option_to_list o)) (sym own.1) (here, tt)) other) is
+asked_left : (refused : List Attempt) (number : ℕ) (fault : Type 0) (doubt : Option Entry) (entry : Entry) (left : Option Entry) → WasRefused refused number entry → AllByRecursion (WasRefused refused number) (option_to_list doubt)
+    → IsLeftEntry fault doubt entry left → AllByRecursion (WasRefused refused number) (option_to_list left)
+asked_left refused number fault doubt entry left here doubts is =
+    ⊎_elim (λ none. subst (λ (o : Option Entry). AllByRecursion (WasRefused refused number) (option_to_list o)) (sym none) tt)
+    (λ other. ⊎_elim (λ was. subst (λ (o : Option Entry). AllByRecursion (WasRefused refused number) (option_to_list o)) (sym was) doubts)
+    (λ own. subst (λ (o : Option Entry). AllByRecursion (WasRefused refused number) (option_to_list o)) (sym own.1) (here, tt)) other) is
 
 -- what stands for a prefix of some entries does so of more, and where more were refused
-longer : (start : State) (entries more refused other : List Entry) (least : ℕ) (c : Directory) → StandsForPrefix start entries refused least c → StandsForPrefix start (entries ++ more) (refused ++ other) least c
+longer : (start : State) (entries more : List Entry) (refused other : List Attempt) (least : ℕ) (c : Directory) → StandsForPrefix start entries refused least c → StandsForPrefix start (entries ++ more) (refused ++ other) least c
 longer start entries more refused other least c p = record {
   count = p.count;
   at_least = p.at_least;
   at_most = omega (arith, p.at_most, length-append entries more);
   further = p.further;
   one = p.one;
-  asked = asked_more refused other p.further p.asked;
+  asked = asked_more refused other (start.number + p.count) p.further p.asked;
   stands = subst (λ (l : List Entry). Stands c (state_after (state_after start l) p.further)) (sym (take-front p.count entries more p.at_most)) p.stands;
 }
   where
@@ -58,7 +58,7 @@ longer start entries more refused other least c p = record {
         ∙ take_at (take n xs) (drop n xs ++ ys) n (omega (arith, length-take n xs, within))
 
 -- the whole, and nothing further
-whole_alone : (start : State) (entries refused : List Entry) (least : ℕ) (c : Directory) → least ≤ length entries → Stands c (state_after start entries) → StandsForPrefix start entries refused least c
+whole_alone : (start : State) (entries : List Entry) (refused : List Attempt) (least : ℕ) (c : Directory) → least ≤ length entries → Stands c (state_after start entries) → StandsForPrefix start entries refused least c
 whole_alone start entries refused least c le stands = record {
   count = length entries;
   at_least = le;
@@ -69,8 +69,8 @@ whole_alone start entries refused least c le stands = record {
   stands = subst (λ (l : List Entry). Stands c (state_after (state_after start l) [])) (sym (take_all (length entries) entries (omega arith))) (subst (λ (s : State). Stands c s) (state_after-nil (state_after start entries)) stands);
 }
 
--- the whole, with at most one of these entries more, which were refused
-pub whole : (start : State) (entries refused next : List Entry) (least : ℕ) (c : Directory) → least ≤ length entries → AllByRecursion (Contains refused) next → StandsWithAtMost (state_after start entries) next c → StandsForPrefix start entries refused least c
+-- the whole, with at most one of these entries more, which were refused behind it
+pub whole : (start : State) (entries : List Entry) (refused : List Attempt) (next : List Entry) (least : ℕ) (c : Directory) → least ≤ length entries → AllByRecursion (WasRefused refused (start.number + length entries)) next → StandsWithAtMost (state_after start entries) next c → StandsForPrefix start entries refused least c
 whole start entries refused [] least c le asked stands = whole_alone start entries refused least c le stands
 whole start entries refused (e ∷ next) least c le asked stands = ⊎_elim
     (λ more. record {
@@ -85,7 +85,7 @@ whole start entries refused (e ∷ next) least c le asked stands = ⊎_elim
     (λ rest. whole start entries refused next least c le asked.1 rest) stands
 
 -- what some calls leave is such a prefix, of more entries and with more that were refused
-module _ (start : State) (old new : Crashes) (entries more refused other : List Entry) (P : Directory → Type 0) (leaves : LeavesOnly P old new)
+module _ (start : State) (old new : Crashes) (entries more : List Entry) (refused other : List Attempt) (P : Directory → Type 0) (leaves : LeavesOnly P old new)
     (so : (least : ℕ) (c : Directory) → least ≤ length entries → P c → StandsForPrefix start (entries ++ more) (refused ++ other) least c) where
   since_then : (t least : ℕ) → t ≤ old.moment → least ≤ length entries → ((c : Directory) → old.since t c → StandsForPrefix start entries refused least c) → (c : Directory) → new.since t c → StandsForPrefix start (entries ++ more) (refused ++ other) least c
   since_then t least before le had c left = ⊎_elim (λ was. longer start entries more refused other least c (had c was)) (λ now. so least c le now) (leaves.before t c before left)
@@ -94,7 +94,7 @@ module _ (start : State) (old new : Crashes) (entries more refused other : List 
   kept_then count [] le kept = tt
   kept_then count (m ∷ made) le kept = (omega (arith, kept.0, leaves.later), since_then m.moment (count + 1) kept.0 (omega (arith, le)) kept.1, kept_then (count + 1) made (omega (arith, le)) kept.2)
 
-kept_last : (crashes : Crashes) (start : State) (entries refused : List Entry) (count : ℕ) (made : List Made) (m : Made) → AreKept crashes start entries refused count made → m.moment ≤ crashes.moment
+kept_last : (crashes : Crashes) (start : State) (entries : List Entry) (refused : List Attempt) (count : ℕ) (made : List Made) (m : Made) → AreKept crashes start entries refused count made → m.moment ≤ crashes.moment
     → ((c : Directory) → crashes.since m.moment c → StandsForPrefix start entries refused (count + length made + 1) c) → AreKept crashes start entries refused count (made ++ m ∷ [])
 kept_last crashes start entries refused count [] m kept le here = (le, (λ c left. subst (λ (n : ℕ). StandsForPrefix start entries refused n c) (omega arith) (here c left)), tt)
 kept_last crashes start entries refused count (x ∷ made) m kept le here =
@@ -112,9 +112,9 @@ survives_none old new state leaves = record {
   kept = tt;
 }
 
-module _ (old new : Crashes) (start : State) (since : ℕ) (made : List Made) (refused : List Entry) (next : List Entry) (leaves : LeavesOnly (StandsWithAtMost (state_after start (entries_of made)) next) old new) (survives : Survives old start since made refused) where
-  -- calls that add no entry, and may leave one of those that were refused
-  pub survives_on : (other : List Entry) → AllByRecursion (Contains (refused ++ other)) next → Survives new start since made (refused ++ other)
+module _ (old new : Crashes) (start : State) (since : ℕ) (made : List Made) (refused : List Attempt) (next : List Entry) (leaves : LeavesOnly (StandsWithAtMost (state_after start (entries_of made)) next) old new) (survives : Survives old start since made refused) where
+  -- calls that add no entry, and may leave one of those that were refused behind the last one
+  pub survives_on : (other : List Attempt) → AllByRecursion (WasRefused (refused ++ other) (start.number + length (entries_of made))) next → Survives new start since made (refused ++ other)
   survives_on other asked =
       let none = append-nil (entries_of made) in
       let so : (least : ℕ) (c : Directory) → least ≤ length (entries_of made) → StandsWithAtMost (state_after start (entries_of made)) next c → StandsForPrefix start (entries_of made ++ []) (refused ++ other) least c =
@@ -126,7 +126,7 @@ module _ (old new : Crashes) (start : State) (since : ℕ) (made : List Made) (r
       }
 
 -- calls that add an entry, which every crash now leaves
-module _ (old new : Crashes) (start : State) (since : ℕ) (made : List Made) (refused : List Entry) (entry : Entry) (doubts : List Entry) (asked : AllByRecursion (Contains refused) doubts)
+module _ (old new : Crashes) (start : State) (since : ℕ) (made : List Made) (refused : List Attempt) (entry : Entry) (doubts : List Entry) (asked : AllByRecursion (WasRefused refused (start.number + length (entries_of made))) doubts)
     (leaves : LeavesOnly (StandsWithAtMost (state_after start (entries_of made)) (entry ∷ doubts)) old new) (survives : Survives old start since made refused) where
   abbrev longer_by : List Entry
   longer_by = entries_of made ++ entry ∷ []
@@ -147,11 +147,11 @@ module _ (old new : Crashes) (start : State) (since : ℕ) (made : List Made) (r
       let same = append-nil refused in
       record {
         later = omega (arith, survives.later, leaves.later);
-        each = λ c left. subst (λ (l : List Entry). StandsForPrefix start l refused 0 c) (sym all) (subst (λ (l : List Entry). StandsForPrefix start (entries_of made ++ entry ∷ []) l 0 c) same
+        each = λ c left. subst (λ (l : List Entry). StandsForPrefix start l refused 0 c) (sym all) (subst (λ (l : List Attempt). StandsForPrefix start (entries_of made ++ entry ∷ []) l 0 c) same
             (since_then start old new (entries_of made) (entry ∷ []) refused [] _ leaves with_it since 0 survives.later (omega arith) survives.each c left));
         kept = subst (λ (l : List Entry). AreKept new start l refused 0 (made ++ m ∷ [])) (sym all)
             (kept_last new start (entries_of made ++ entry ∷ []) refused 0 made m
-            (subst (λ (l : List Entry). AreKept new start (entries_of made ++ entry ∷ []) l 0 made) same (kept_then start old new (entries_of made) (entry ∷ []) refused [] _ leaves with_it 0 made (omega (arith, many made)) survives.kept)) (omega arith)
+            (subst (λ (l : List Attempt). AreKept new start (entries_of made ++ entry ∷ []) l 0 made) same (kept_then start old new (entries_of made) (entry ∷ []) refused [] _ leaves with_it 0 made (omega (arith, many made)) survives.kept)) (omega arith)
             (λ c left. whole_alone start (entries_of made ++ entry ∷ []) refused (0 + length made + 1) c (omega (arith, size)) (now c (none c left))));
       }
 
@@ -172,10 +172,10 @@ module _ {D R W : Type 0} (g : Ghosts D R W) where
     survives = survives_none (g.crashes disk) (g.crashes logs.disk) (state_in books) leaves;
   }
 
-  module _ (old new : Logs D) (start : State) (since : ℕ) (made : List Made) (refused : List Entry) (was : Option Entry) (ran : Ran g old start since made refused was) (books : Books) where
-    -- calls that add no entry, and may leave one of those that were refused
-    pub ran_on : (next other : List Entry) (doubt : Option Entry) → AllByRecursion (Contains (refused ++ other)) next → AllByRecursion (Contains (refused ++ other)) (option_to_list doubt)
-        → LeavesOnly (StandsWithAtMost (state_in ran.books) next) (g.crashes old.disk) (g.crashes new.disk) → Holds g new books doubt → state_in books ≡ state_in ran.books → Ran g new start since made (refused ++ other) doubt
+  module _ (old new : Logs D) (start : State) (since : ℕ) (made : List Made) (refused : List Attempt) (was : Option Entry) (ran : Ran g old start since made refused was) (books : Books) where
+    -- calls that add no entry, and may leave one of those that were refused behind the last one
+    pub ran_on : (next : List Entry) (other : List Attempt) (doubt : Option Entry) → AllByRecursion (WasRefused (refused ++ other) (start.number + length (entries_of made))) next
+        → AllByRecursion (WasRefused (refused ++ other) (start.number + length (entries_of made))) (option_to_list doubt) → LeavesOnly (StandsWithAtMost (state_in ran.books) next) (g.crashes old.disk) (g.crashes new.disk) → Holds g new books doubt → state_in books ≡ state_in ran.books → Ran g new start since made (refused ++ other) doubt
     ran_on next other doubt asked doubted left holds same = record {
       books = books;
       holds = holds;
@@ -185,12 +185,12 @@ module _ {D R W : Type 0} (g : Ghosts D R W) where
     }
 
     -- calls that refuse no entry
-    pub ran_still : (doubt : Option Entry) → AllByRecursion (Contains refused) (option_to_list doubt) → LeavesOnly (StandsWithAtMost (state_in ran.books) (option_to_list was)) (g.crashes old.disk) (g.crashes new.disk) → Holds g new books doubt
+    pub ran_still : (doubt : Option Entry) → AllByRecursion (WasRefused refused (start.number + length (entries_of made))) (option_to_list doubt) → LeavesOnly (StandsWithAtMost (state_in ran.books) (option_to_list was)) (g.crashes old.disk) (g.crashes new.disk) → Holds g new books doubt
         → state_in books ≡ state_in ran.books → Ran g new start since made refused doubt
     ran_still doubt doubted left holds same =
         let none = append-nil refused in
-        subst (λ (l : List Entry). Ran g new start since made l doubt) none
-        (ran_on (option_to_list was) [] doubt (asked_more refused [] (option_to_list was) ran.asked) (asked_more refused [] (option_to_list doubt) doubted) left holds same)
+        subst (λ (l : List Attempt). Ran g new start since made l doubt) none
+        (ran_on (option_to_list was) [] doubt (asked_more refused [] (start.number + length (entries_of made)) (option_to_list was) ran.asked) (asked_more refused [] (start.number + length (entries_of made)) (option_to_list doubt) doubted) left holds same)
 
     -- calls that add one
     pub ran_entry : (entry : Entry) → NoneBefore (g.crashes new.disk) → LeavesOnly (StandsWithAtMost (state_in ran.books) (entry ∷ option_to_list was)) (g.crashes old.disk) (g.crashes new.disk) → Holds g new books None
@@ -208,8 +208,12 @@ module _ {D R W : Type 0} (g : Ghosts D R W) where
               (λ c now. subst (λ (s : State). Stands c s) state (left_now new books None holds c now));
         }
 
+  -- the number behind all entries is the last one's
+  pub number_of : (logs : Logs D) (start : State) (since : ℕ) (made : List Made) (refused : List Attempt) (doubt : Option Entry) → Ran g logs start since made refused doubt → logs.number ≡ start.number + length (entries_of made)
+  number_of logs start since made refused doubt ran = ran.holds.number ∙ ap (λ (s : State). s.number) ran.is
+
   -- what was prepared may be the next entry of a history
-  pub next_of : (logs : Logs D) (start : State) (since : ℕ) (made : List Made) (refused : List Entry) (doubt : Option Entry) (prepared : Prepared) (entry : Entry) (ran : Ran g logs start since made refused doubt) → MayEnter logs prepared
+  pub next_of : (logs : Logs D) (start : State) (since : ℕ) (made : List Made) (refused : List Attempt) (doubt : Option Entry) (prepared : Prepared) (entry : Entry) (ran : Ran g logs start since made refused doubt) → MayEnter logs prepared
       → IsTaken (logs.series.keys ++ series_in prepared.series) (state_after start (entries_of made)).points entry → IsNext (with_series ran.books (series_in prepared.series)) entry
   next_of logs start since made refused doubt prepared entry ran may taken = record {
     taken = subst (λ (s : List (List ℕ)). IsTaken (s ++ series_in prepared.series) (state_in ran.books).points entry) ran.holds.keeps.keys
@@ -229,10 +233,14 @@ module _ {D R W : Type 0} (g : Ghosts D R W) where
         (λ left_by. λ told start since made refused doubt entry ran spells taken.
         let follow : MayFollow ran.books prepared entry = record { spells = spells; next = next_of old start since made refused doubt prepared entry ran may taken } in
         let left = left_by told ran.books doubt entry ran.holds follow in
-        let doubts = asked_more refused (entry ∷ []) (option_to_list doubt) ran.asked in (
+        let number = start.number + length (entries_of made) in
+        let more = refused ++ (old.number, entry) ∷ [] in
+        let here : WasRefused (refused ++ (old.number, entry) ∷ []) (start.number + length (entries_of made)) entry =
+        subst (λ (n : ℕ). WasRefused (refused ++ (old.number, entry) ∷ []) n entry) (number_of old start since made refused doubt ran) (Contains-push refused (old.number, entry)) in
+        let doubts = asked_more refused ((old.number, entry) ∷ []) number (option_to_list doubt) ran.asked in (
           left.left,
           left.is_left,
-          ran_on old new start since made refused doubt ran (with_series ran.books left.held) (entry ∷ option_to_list doubt) (entry ∷ []) left.left (Contains-push refused entry, doubts)
-              (asked_left (refused ++ entry ∷ []) _ doubt entry left.left (Contains-push refused entry) doubts left.is_left) (enters.crash told ran.books doubt entry ran.holds follow) left.holds refl,
+          ran_on old new start since made refused doubt ran (with_series ran.books left.held) (entry ∷ option_to_list doubt) ((old.number, entry) ∷ []) left.left (here, doubts)
+              (asked_left more number _ doubt entry left.left here doubts left.is_left) (enters.crash told ran.books doubt entry ran.holds follow) left.holds refl,
         )) enters.refused;
   }

@@ -12,31 +12,31 @@ use Rattle.point_model.specs.Histories.{State, state_after}
 use Rattle.point_model.specs.declared.entry.Entry.{Entry}
 use Rattle.manifest_log.specs.Reading.{manifest}
 use Rattle.shard_state.specs.declared.logs.Logs.{Logs}
-use Rattle.shard_state.specs.History.{AreKept, Made, Ran, StandsForPrefix, Survives, entries_of}
+use Rattle.shard_state.specs.History.{AreKept, Attempt, Made, Ran, StandsForPrefix, Survives, entries_of}
 use Rattle.shard_state.specs.Layers.{HasLayers, by_age}
 use Rattle.shard_state.specs.Meaning.{Stands, StandsWithAtMost}
 use Rattle.shard_state.specs.Opening.{IsSoundAtOpening, IsSoundThroughout}
 use Rattle.shard_state.proofs.GoingOn.{left_now, many}
 
-kept_at : (crashes : Crashes) (start : State) (entries refused : List Entry) (count : ℕ) (before : List Made) (m : Made) (behind : List Made) → AreKept crashes start entries refused count (before ++ m ∷ behind) → (c : Directory) → crashes.since m.moment c
+kept_at : (crashes : Crashes) (start : State) (entries : List Entry) (refused : List Attempt) (count : ℕ) (before : List Made) (m : Made) (behind : List Made) → AreKept crashes start entries refused count (before ++ m ∷ behind) → (c : Directory) → crashes.since m.moment c
     → StandsForPrefix start entries refused (count + length before + 1) c
 kept_at crashes start entries refused count [] m behind kept c left = subst (λ (n : ℕ). StandsForPrefix start entries refused n c) (omega arith) (kept.1 c left)
 kept_at crashes start entries refused count (x ∷ before) m behind kept c left =
     subst (λ (n : ℕ). StandsForPrefix start entries refused n c) (omega arith) (kept_at crashes start entries refused (count + 1) before m behind kept.2 c left)
 
 -- each image since the moment of an entry has it
-pub has_entry : (crashes : Crashes) (start : State) (since : ℕ) (before : List Made) (m : Made) (behind : List Made) (refused : List Entry) → Survives crashes start since (before ++ m ∷ behind) refused → (c : Directory) → crashes.since m.moment c
+pub has_entry : (crashes : Crashes) (start : State) (since : ℕ) (before : List Made) (m : Made) (behind : List Made) (refused : List Attempt) → Survives crashes start since (before ++ m ∷ behind) refused → (c : Directory) → crashes.since m.moment c
     → StandsForPrefix start (entries_of (before ++ m ∷ behind)) refused (length before + 1) c
 has_entry crashes start since before m behind refused survives c left =
     subst (λ (n : ℕ). StandsForPrefix start (entries_of (before ++ m ∷ behind)) refused n c) (omega arith) (kept_at crashes start (entries_of (before ++ m ∷ behind)) refused 0 before m behind survives.kept c left)
 
 -- each image now has all entries, with the one in doubt or without
-pub has_all : {D R W : Type 0} (g : Ghosts D R W) (logs : Logs D) (start : State) (since : ℕ) (made : List Made) (refused : List Entry) (doubt : Option Entry) → Ran g logs start since made refused doubt → (c : Directory) → (g.crashes logs.disk).now c
+pub has_all : {D R W : Type 0} (g : Ghosts D R W) (logs : Logs D) (start : State) (since : ℕ) (made : List Made) (refused : List Attempt) (doubt : Option Entry) → Ran g logs start since made refused doubt → (c : Directory) → (g.crashes logs.disk).now c
     → StandsWithAtMost (state_after start (entries_of made)) (option_to_list doubt) c
 has_all g logs start since made refused doubt ran c now = subst (λ (s : State). StandsWithAtMost s (option_to_list doubt) c) ran.is (left_now g logs ran.books doubt ran.holds c now)
 
 -- the number counts the entries
-pub counts : {D R W : Type 0} (g : Ghosts D R W) (logs : Logs D) (start : State) (since : ℕ) (made : List Made) (refused : List Entry) (doubt : Option Entry) → Ran g logs start since made refused doubt → logs.number ≡ start.number + length made
+pub counts : {D R W : Type 0} (g : Ghosts D R W) (logs : Logs D) (start : State) (since : ℕ) (made : List Made) (refused : List Attempt) (doubt : Option Entry) → Ran g logs start since made refused doubt → logs.number ≡ start.number + length made
 counts g logs start since made refused doubt ran = ran.holds.number ∙ ap (λ (s : State). s.number) ran.is ∙ ap (λ (n : ℕ). start.number + n) (many made)
 
 some_of : {X : Type 0} (P : X → Type 0) (o : Option X) → IsSomeAnd o P → IsSome o

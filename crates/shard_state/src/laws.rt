@@ -7,7 +7,7 @@ ghost use Rattle.point_model.specs.declared.entry.Entry.{Entry};
 ghost use Rattle.shard_state.specs.Books.{Books, state_in};
 ghost use Rattle.shard_state.specs.Crashes.{LeavesOnly};
 ghost use Rattle.shard_state.specs.Engine.{Holds, IsOpened};
-ghost use Rattle.shard_state.specs.History.{Made, Ran, StandsForPrefix, Survives, entries_of};
+ghost use Rattle.shard_state.specs.History.{Attempt, Made, Ran, StandsForPrefix, Survives, entries_of};
 ghost use Rattle.shard_state.specs.Meaning.{Stands, StandsWithAtMost};
 ghost use Rattle.shard_state.specs.Opening.{IsSoundThroughout, IsSoundWithAtMost};
 ghost use Rattle.shard_state.specs.declared.logs.Logs.{Logs};
@@ -31,8 +31,8 @@ pub fn histories_go_on<D: Disk>()
 {}
 
 /// Each image of any moment since the start of a history stands for a prefix of its entries and at most one entry more, which was
-/// refused, and each since the moment of an entry has that entry. A disk is sound as it is opened, where the logs on it were left as
-/// they were and where it reads what a crash left. It stands for one state.
+/// refused behind exactly that prefix, and each since the moment of an entry has that entry. A disk is sound as it is opened, where
+/// the logs on it were left as they were and where it reads what a crash left. It stands for one state.
 pub fn crashes_keep_entries<D: Disk>()
     ensures prefix { (disk : D) (start : State) (since : ℕ) (made : List Made) (refused : List Attempt) → Survives (D.crashes disk) start since made refused
         → (c : Directory) → (D.crashes disk).since since c → StandsForPrefix start (entries_of made) refused 0 c }
