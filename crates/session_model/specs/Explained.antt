@@ -1,5 +1,5 @@
 -- When does one history explain what all clients were told?
-use Rattle.std.specs.Prelude.{◌≡◌, ℕ, ◌+◌, ◌-◌, ◌^◌, ◌<◌, ◌≤◌, ◌⊎◌, min, max, fold, ℤ, Bool, true, false, List, [], ◌∷◌, ◌++◌, length, take, map, All, Any, Option, Some, None, IsSome, IfSome, IsPermutation, slice_get}
+use Rattle.std.specs.Prelude.{◌≡◌, ℕ, ◌+◌, ◌-◌, ◌^◌, ◌<◌, ◌≤◌, ◌⊎◌, min, max, fold, ℤ, Bool, true, false, List, [], ◌∷◌, ◌++◌, length, take, map, All, Option, Some, None, IsSome, IfSome, IsPermutation, slice_get}
 use Rattle.std.specs.List.{flat_map}
 use Rattle.std.specs.Option.{option_to_list}
 use Rattle.session_io.specs.declared.report.Report.{Report}
