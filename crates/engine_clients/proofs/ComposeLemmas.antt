@@ -10,13 +10,12 @@ use Rattle.point_model.specs.Histories.{State}
 use Rattle.store_trait.specs.Told.{IsLater}
 use Rattle.session_io.specs.declared.client.Client.{Client}
 use Rattle.session_io.specs.declared.report.Report.{Report}
-use Rattle.session_model.specs.Replies.{accepted}
 use Rattle.session_model.specs.Machine.{Answer}
-use Rattle.session_model.specs.Explained.{AreToldFrom, ExplainedBut, IsTold, IsTriedIn, Records, TakePlaces, all_answers, own_numbers, numbers_from}
+use Rattle.session_model.specs.Explained.{ExplainedBut, IsTriedIn, all_answers, own_numbers, numbers_from}
 use Rattle.session_loop.specs.Composed.{AreParts, IsPart, Part, Whole}
 use Rattle.session_loop.specs.Sessions.{faults_in}
-use Rattle.session_loop.specs.Steps.{HasCause, HasCauseAt}
-use Rattle.session_loop.proofs.StepLemmas.{given_in, longer}
+use Rattle.session_loop.specs.Steps.{HasCause}
+use Rattle.session_loop.proofs.ComposedLemmas.{all_told, tried_first}
 use Rattle.history_turn.specs.Histories.{StartsWith, numbers_after}
 use Rattle.history_turn.specs.Owned.{weigh, SameItems}
 use Rattle.history_turn.proofs.OwnedLemmas.{weigh-append}
@@ -38,35 +37,6 @@ use Rattle.engine_clients.specs.Seats.{Seat, Served, ServesOne, loans_of, own_of
 use Rattle.engine_clients.specs.Served.{client_of, left_by}
 use Rattle.engine_clients.proofs.BagLemmas.{permuted, weigh-numbers_from, weigh-reverse}
 use Rattle.engine_clients.proofs.EachLemmas.{ServeEach}
-
--- ---- sessions over one history
-
-module _ (whole : Whole) where
-  places_in : (client : ℕ) (part : Part) → IsPart whole client part → (least : ℕ) (answers : List Answer)
-      → TakePlaces part.new.told.tells (HasCauseAt part.new.told) part.new.told.start part.new.told.history part.new.told.client least answers
-      → TakePlaces whole.tells (HasCause whole.tells whole.limits whole.series whole.start) whole.start whole.history client least answers
-  places_in client part is least [] places = tt
-  places_in client part is least (answer ∷ answers) places = (
-    places.0,
-    places.1,
-    given_in part.new.told whole.tells whole.limits whole.series whole.start whole.history client answer places.0 is.tells is.limits is.series is.start is.knew (sym is.whose) places.2,
-    places_in client part is (places.0 + length (accepted answer.reply)) answers places.3,
-  )
-
-  told_in : (client : ℕ) (part : Part) → (is : IsPart whole client part)
-      → IsTold whole.tells (HasCause whole.tells whole.limits whole.series whole.start) whole.start whole.history client part.transcript part.dialogue is.is.opening
-  told_in client part is =
-      let told = is.is.told in
-      record {
-        within = (let low = told.within in let more = longer part.new.told.history whole.history is.knew in omega (arith, low, more));
-        records = subst (λ (s : State). Records (s.number + is.is.opening) part.transcript part.dialogue) (sym is.start) told.records;
-        places = places_in client part is is.is.opening (all_answers part.dialogue) told.places;
-      }
-
-  pub all_told : (client : ℕ) (parts : List Part) → AreParts whole client parts
-      → AreToldFrom whole.tells (HasCause whole.tells whole.limits whole.series whole.start) whole.start whole.history client (map (λ part. part.transcript) parts) (map (λ part. part.dialogue) parts)
-  all_told client [] are = tt
-  all_told client (part ∷ parts) are = (are.0.is.opening, told_in client part are.0, all_told (client + 1) parts are.1)
 
 -- ---- loans
 
@@ -181,7 +151,9 @@ module _ {D R W S K C : Type 0} (g : Ghosts D R W) (members : Devices S K C) whe
       pub views : views_lent (flat_map loans_of mids) ≡ []
       pub faults : min (faults_in (flat_map all_answers (map (λ part. part.dialogue) parts))) last_count ≤ faults_lent (flat_map loans_of mids)
       pub quiet : faults_in (flat_map all_answers (map (λ part. part.dialogue) parts)) ≡ 0 → faults_lent (flat_map loans_of mids) ≡ 0
-      pub asked : (attempt : Attempt) → Contains (tried_lent (flat_map loans_of mids)) attempt → IsTriedIn client (map (λ part. part.dialogue) parts) attempt
+      pub asked : (held : ℕ) (few : most_found (flat_map loans_of mids) ≤ held) (attempt : Attempt) → Contains (tried_lent (flat_map loans_of mids)) attempt
+          → IsTriedIn true (HasCause true (Some (limits_of (state_of start) start.logs.series.keys start)) held (state_of start)) (state_of start) (entries_in entries) client
+          (map (λ part. part.transcript) parts) (map (λ part. part.dialogue) parts) (all_told (whole_with held) client parts (are_parts held few)) attempt
 
     pub composed : (client : ℕ) (olds mids : List (Served D S K C)) → seat.view.start ≡ Some start → seat.view.own ≡ [] → seat.view.loans ≡ []
         → ServeEach g members client (map (seated_with seat) olds) mids → All (λ mid. StartsWith entries (seen_of mid)) mids → Composes client olds mids
@@ -197,7 +169,7 @@ module _ {D R W S K C : Type 0} (g : Ghosts D R W) (members : Devices S K C) whe
       views = refl;
       faults = omega arith;
       quiet = λ none. refl;
-      asked = λ attempt at. absurd (let below = at.1 in omega (arith, below));
+      asked = λ held few attempt at. absurd (let below = at.1 in omega (arith, below));
     }
     composed client (old ∷ olds) [] from no_own no_loan each seen = absurd each
     composed client [] (mid ∷ mids) from no_own no_loan each seen = absurd each
@@ -220,6 +192,12 @@ module _ {D R W S K C : Type 0} (g : Ghosts D R W) (members : Devices S K C) whe
         let found_here : most_found (loans_of mid) ≡ most_found one.now.view.loans = ap most_found loans_here in
         let faults_here : faults_lent (loans_of mid) ≡ faults_lent one.now.view.loans = ap faults_lent loans_here in
         let no_faults : faults_lent one.before.view.loans ≡ 0 = ap faults_lent no_loans in
+        let first_few : (held : ℕ) → most_found (loans_of mid ++ flat_map loans_of mids) ≤ held → most_found one.now.view.loans ≤ held =
+        λ held few. omega (arith, few, found_both, found_here) in
+        let rest_few : (held : ℕ) → most_found (loans_of mid ++ flat_map loans_of mids) ≤ held → most_found (flat_map loans_of mids) ≤ held =
+        λ held few. omega (arith, few, found_both) in
+        let all_parts : (held : ℕ) → most_found (loans_of mid ++ flat_map loans_of mids) ≤ held → AreParts (whole_with held) client (part_of_one client (seated_with seat old) mid one ∷ rest.parts) =
+        λ held few. (is_part client held old mid one from no_own first (first_few held few), rest.are_parts held (rest_few held few)) in
         record {
           parts = part_of_one client (seated_with seat old) mid one ∷ rest.parts;
           sessions = session_of_one client (seated_with seat old) mid one ∷ rest.sessions;
@@ -239,10 +217,7 @@ module _ {D R W S K C : Type 0} (g : Ghosts D R W) (members : Devices S K C) whe
             },
             rest.transcripts,
           );
-          are_parts = λ held few. (
-            is_part client held old mid one from no_own first (omega (arith, few, found_both, found_here)),
-            rest.are_parts held (omega (arith, few, found_both)),
-          );
+          are_parts = all_parts;
           own = λ f.
               let left = weigh-append f (own_numbers session.dialogue) (flat_map own_numbers (map (λ (p : Part). p.dialogue) rest.parts)) in
               let right = weigh-append f (own_of mid) (flat_map own_of mids) in
@@ -264,12 +239,13 @@ module _ {D R W S K C : Type 0} (g : Ghosts D R W) (members : Devices S K C) whe
               let more : faults_lent (flat_map loans_of mids) ≡ 0 =
               rest.quiet (none_second (faults_in (all_answers session.dialogue)) (faults_in (flat_map all_answers (map (λ (p : Part). p.dialogue) rest.parts))) none_of) in
               loans_both ∙ none_both (faults_lent (loans_of mid)) (faults_lent (flat_map loans_of mids)) (faults_here ∙ here) more;
-          asked = λ attempt at. ⊎_elim
+          asked = λ held few attempt at. ⊎_elim
               (λ mine. ⊎_elim
               (λ before. absurd (let below = (subst (λ (l : List Lent). Contains (tried_lent l) attempt) no_loans before).1 in omega (arith, below)))
-              inl
-              (is.tried attempt (subst (λ (l : List Lent). Contains (tried_lent l) attempt) loans_here mine)))
-              (λ others. inr (rest.asked attempt others))
+              (λ told. told)
+              (tried_first (whole_with held) client (part_of_one client (seated_with seat old) mid one) rest.parts (all_parts held few) attempt
+              (subst (λ (l : List Lent). Contains (tried_lent l) attempt) loans_here mine)))
+              (λ others. inr (rest.asked held (rest_few held few) attempt others))
               (Contains-append_cases (tried_lent (loans_of mid)) (tried_lent (flat_map loans_of mids)) attempt
               (subst (λ (l : List Attempt). Contains l attempt) (tried-append (loans_of mid) (flat_map loans_of mids)) at));
         }

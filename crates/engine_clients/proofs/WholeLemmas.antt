@@ -1,5 +1,5 @@
 -- From the first pass to the engine that is handed back.
-use Rattle.std.proofs.Common.{◌≡◌, ◌≤◌, ◌<◌, ◌+◌, ℕ, zero, suc, replicate, append-nil, List, [], ◌∷◌, ◌++◌, length, map, min, Option, Some, slice_index_or, refl, sym, ap, ◌∙◌, subst, arith, Contains}
+use Rattle.std.proofs.Common.{◌≡◌, ◌≤◌, ◌<◌, ◌+◌, ℕ, zero, suc, replicate, append-nil, List, [], ◌∷◌, ◌++◌, length, map, min, Option, Some, true, slice_index_or, refl, sym, ap, ◌∙◌, subst, arith, Contains}
 use Rattle.std.specs.List.{AllByRecursion, flat_map}
 use Rattle.std.proofs.lemmas.List.Elements.{All-weaker}
 use Rattle.shard_disk.specs.Health.{last_count}
@@ -8,6 +8,8 @@ use Rattle.point_model.specs.Histories.{State}
 use Rattle.session_model.specs.Explained.{IsTriedIn, all_answers}
 use Rattle.session_loop.specs.Composed.{Part}
 use Rattle.session_loop.specs.Sessions.{faults_in}
+use Rattle.session_loop.specs.Steps.{HasCause}
+use Rattle.session_loop.proofs.ComposedLemmas.{all_told}
 use Rattle.history_turn.specs.Calls.{Closed}
 use Rattle.history_turn.specs.Histories.{StartsWith, numbers_after}
 use Rattle.history_turn.specs.Owned.{SameItems, weigh}
@@ -34,7 +36,7 @@ use Rattle.engine_session.specs.Serving.{AreServed}
 use Rattle.engine_session.proofs.ServedLemmas.{each_in}
 use Rattle.engine_clients.specs.Seats.{JoinsAll, Seat, Served, ServesOne, loans_of, own_of, seated_with, seen_of, unseated}
 use Rattle.engine_clients.specs.Served.{ServesTogether}
-use Rattle.engine_clients.proofs.ComposeLemmas.{Composes, composed, explained}
+use Rattle.engine_clients.proofs.ComposeLemmas.{Composes, composed, explained, whole_with}
 use Rattle.engine_clients.proofs.EachLemmas.{ServeEach, each_of_places}
 use Rattle.engine_clients.proofs.TriedLemmas.{tried_told}
 
@@ -187,10 +189,14 @@ module _ {D R W S K C : Type 0} (g : Ghosts D R W) (members : Devices S K C) (st
   ran_from it = subst (λ (s : Option (Shard D)). RanFrom g s (tried_in (refusals_in left.found.items)) it.closes.entries left.shard) (from_start it) it.closes.stands_for.2
 
   -- what the engine tried, a client asked for and was refused
-  tried_for : (it : Comes) (together : Composes g members start it.closes.entries seat 0 olds mids)
-      → AllByRecursion (IsTriedIn 0 (map (λ (p : Part). p.dialogue) together.parts)) (tried_in (refusals_in left.found.items))
-  tried_for it together = each_in (IsTriedIn 0 (map (λ (p : Part). p.dialogue) together.parts)) (tried_in (refusals_in left.found.items)) (λ attempt at.
-      together.asked attempt (subst (λ (l : List Lent). Contains (tried_lent l) attempt) (all_loans it)
+  abbrev IsAsked : (it : Comes) (together : Composes g members start it.closes.entries seat 0 olds mids) → Attempt → Type 0
+  IsAsked it together attempt = IsTriedIn true (HasCause true (Some (limits_of (state_of start) start.logs.series.keys start)) (length left.shard.logs.series.keys) (state_of start)) (state_of start)
+      (entries_in it.closes.entries) 0 (map (λ (p : Part). p.transcript) together.parts) (map (λ (p : Part). p.dialogue) together.parts)
+      (all_told (whole_with g members start it.closes.entries seat (length left.shard.logs.series.keys)) 0 together.parts (together.are_parts (length left.shard.logs.series.keys) (few_found it))) attempt
+
+  tried_for : (it : Comes) (together : Composes g members start it.closes.entries seat 0 olds mids) → AllByRecursion (IsAsked it together) (tried_in (refusals_in left.found.items))
+  tried_for it together = each_in (IsAsked it together) (tried_in (refusals_in left.found.items)) (λ attempt at.
+      together.asked (length left.shard.logs.series.keys) (few_found it) attempt (subst (λ (l : List Lent). Contains (tried_lent l) attempt) (all_loans it)
       (tried_told left.shard.views left.faults (refusals_in left.found.items) last.view.loans it.closes.loans attempt at)))
 
   numbers : (it : Comes) → SameItems last.view.own (numbers_after (state_of start).number (length it.closes.entries))

@@ -17,11 +17,11 @@ use Rattle.store_trait.specs.Told.{IsAlike, Keeps, Limits, OwnsAll, Told, number
 use Rattle.engine_session.proofs.LookLemmas.{look_makes_none}
 use Rattle.session_io.specs.declared.report.Report.{Report}
 use Rattle.session_model.specs.Machine.{Answer}
-use Rattle.session_model.specs.Replies.{accepted}
-use Rattle.session_model.specs.Explained.{Dialogue, ExplainedBut, IsTold, IsTriedIn, Records, TakePlaces, Transcript, TriesBehind, all_answers, own_numbers, numbers_from}
+use Rattle.session_model.specs.Explained.{Dialogue, ExplainedBut, IsTriedIn, Transcript, all_answers, own_numbers, numbers_from}
 use Rattle.session_loop.specs.Sessions.{IsDialogue, IsSession, Told as Client, faults_in}
-use Rattle.session_loop.specs.Steps.{HasCause, HasCauseAt, Stored}
-use Rattle.session_loop.proofs.StepLemmas.{given_in}
+use Rattle.session_loop.specs.Composed.{IsPart, Part, Whole}
+use Rattle.session_loop.specs.Steps.{HasCause, Stored}
+use Rattle.session_loop.proofs.ComposedLemmas.{all_told, tried_first}
 use Rattle.session_loop.proofs.MemoryLemmas.{same_numbers}
 use Rattle.shard_state.specs.Books.{state_in}
 use Rattle.shard_state.specs.Calls.{Closes}
@@ -62,25 +62,23 @@ each_in P (one ∷ attempts) holds = (holds one (Contains-append_left (one ∷ [
 
 module _ (start : State) (limits : Limits) (held : ℕ) (old new : Stored) (transcript : Transcript) (dialogue : Dialogue) (begins : BeginsWith start limits old.told) (is : IsDialogue old new transcript dialogue)
     (few : new.told.series ≤ held) where
-  -- what the store held at its end bounds what it told, and so does what is held later
-  places_in : (least : ℕ) (answers : List Answer)
-      → TakePlaces new.told.tells (HasCauseAt new.told) new.told.start new.told.history new.told.client least answers
-      → TakePlaces true (HasCause true (Some limits) held start) start new.told.history 0 least answers
-  places_in least [] places = tt
-  places_in least (answer ∷ answers) places = (
-    places.0,
-    places.1,
-    given_in new.told true (Some limits) held start new.told.history 0 answer places.0
-        (sym (is.kept.tells ∙ begins.tells)) (sym (is.kept.limits ∙ begins.limited)) few (sym (is.kept.start ∙ begins.begins))
-        (record { since = []; begins = sym (append-nil new.told.history) }) (sym (is.kept.client ∙ begins.client)) places.2,
-    places_in (places.0 + length (accepted answer.reply)) answers places.3,
-  )
+  abbrev whole : Whole
+  whole = record { start = start; tells = true; limits = Some limits; series = held; history = new.told.history }
 
-  pub told : IsTold true (HasCause true (Some limits) held start) start new.told.history 0 transcript dialogue is.opening
-  told = record {
-    within = is.told.within;
-    records = subst (λ (s : State). Records (s.number + is.opening) transcript dialogue) (is.kept.start ∙ begins.begins) is.told.records;
-    places = places_in is.opening (all_answers dialogue) is.told.places;
+  abbrev part : Part
+  part = record { old = old; new = new; transcript = transcript; dialogue = dialogue }
+
+  -- what the store held at its end bounds what it told, and so does what is held later
+  abbrev is_part : IsPart whole 0 part
+  is_part = record {
+    is = is;
+    whose = is.kept.client ∙ begins.client;
+    none_own = begins.own;
+    start = sym (is.kept.start ∙ begins.begins);
+    tells = sym (is.kept.tells ∙ begins.tells);
+    limits = sym (is.kept.limits ∙ begins.limited);
+    series = few;
+    knew = record { since = []; begins = sym (append-nil new.told.history) };
   }
 
   pub numbers : own_numbers dialogue ≡ numbers_from (start.number + 1) new.told.history
@@ -90,17 +88,17 @@ module _ (start : State) (limits : Limits) (held : ℕ) (old new : Stored) (tran
       sym (is.own ∙ ap (λ (l : List ℕ). l ++ own_numbers dialogue) begins.own) ∙ owns
       ∙ ap (λ (s : State). store_numbers (s.number + 1) new.told.history) (is.kept.start ∙ begins.begins) ∙ same_numbers (start.number + 1) new.told.history
 
-  -- what the store tells as tried, the client was refused
-  pub asked_for : AllByRecursion (IsTriedIn 0 (dialogue ∷ [])) new.told.tried
-  asked_for = each_in (IsTriedIn 0 (dialogue ∷ [])) new.told.tried (λ attempt at. ⊎_elim
+  -- what the store tells as tried, the client was refused at its place
+  pub asked_for : AllByRecursion (IsTriedIn true (HasCause true (Some limits) held start) start new.told.history 0 (transcript ∷ []) (dialogue ∷ []) (all_told whole 0 (part ∷ []) (is_part, tt))) new.told.tried
+  asked_for = each_in (IsTriedIn true (HasCause true (Some limits) held start) start new.told.history 0 (transcript ∷ []) (dialogue ∷ []) (all_told whole 0 (part ∷ []) (is_part, tt))) new.told.tried (λ attempt at. ⊎_elim
       (λ before. absurd (none_in (subst (λ (l : List Attempt). Contains l attempt) begins.tried before)))
-      (λ asked. inl (subst (λ (n : ℕ). TriesBehind n attempt.0 attempt.1 (all_answers dialogue)) (is.kept.client ∙ begins.client) asked))
-      (is.tried attempt at))
+      (λ asked. asked)
+      (tried_first whole 0 part [] (is_part, tt) attempt at))
 
   abbrev explained : ExplainedBut true (HasCause true (Some limits) held start) start new.told.history (transcript ∷ [])
   explained = record {
     dialogues = dialogue ∷ [];
-    told = (is.opening, told, tt);
+    told = all_told whole 0 (part ∷ []) (is_part, tt);
     each_once = subst (λ (l : List ℕ). IsPermutation l (numbers_from (start.number + 1) new.told.history)) (sym (append-nil (own_numbers dialogue) ∙ numbers)) (IsPermutation-refl (numbers_from (start.number + 1) new.told.history));
   }
 

@@ -48,7 +48,7 @@ AreTranscripts (session ∷ sessions) [] = ⊥
 -- One history explains the transcripts of all sessions together: each reply is the machine's from the start on, or has its cause in
 -- the engine's limits, a failed device or want of memory. The count of the device's faults rose by no less than the replies that tell
 -- a fault, and by nothing where none does. Each of the entries tried is one that a client asked for and was refused by a fault or for want
--- of memory.
+-- of memory, in an answer whose place in the history is behind exactly the entries up to its number.
 pub record AreServed (sessions : List ClientSession) (start : State) (limits : Limits) (held : ℕ) (history : List Entry) (tried : List Attempt) (old new : Health) : Type 0 where
   pub transcripts : List Transcript
   pub are : AreTranscripts sessions transcripts
@@ -56,7 +56,7 @@ pub record AreServed (sessions : List ClientSession) (start : State) (limits : L
   pub ages : Ages old new
   pub faults : min (old.faults + faults_in (flat_map all_answers explained.dialogues)) last_count ≤ new.faults
   pub quiet : faults_in (flat_map all_answers explained.dialogues) ≡ 0 → new ≡ old
-  pub asked : AllByRecursion (IsTriedIn 0 explained.dialogues) tried
+  pub asked : AllByRecursion (IsTriedIn true (HasCause true (Some limits) held start) start history 0 transcripts explained.dialogues explained.told) tried
 
 -- Clients were served over an engine, which was closed: one history explains what they were told, and is what the disk was left with. What
 -- a crash may leave besides is an entry that a client asked for and was refused by a fault or for want of memory.

@@ -4,17 +4,16 @@ use Rattle.std.specs.Option.{option_to_list}
 use Rattle.std.proofs.lemmas.List.{map-append}
 use Rattle.std.proofs.lemmas.List.Elements.{All-nil}
 use Rattle.shard_disk.specs.Health.{Health, Ages, last_count}
-use Rattle.point_model.specs.declared.entry.Entry.{Entry}
 use Rattle.point_model.specs.Histories.{State}
-use Rattle.store_trait.specs.Told.{Keeps, IsAlike, state_now}
+use Rattle.store_trait.specs.Told.{Attempt, Keeps, IsAlike, Told as Store, state_now}
 use Rattle.session_io.specs.declared.report.Report.{Report}
 use Rattle.session_io.specs.declared.report.End.TheVariants.{Read, Memory}
 use Rattle.session_io.specs.Streams.{Grows}
 use Rattle.session_model.specs.Machine.{Answer}
 use Rattle.session_model.specs.Readable.{IsReadable}
-use Rattle.session_model.specs.Explained.{Transcript, Dialogue, Records, IsCutShort, complete_requests, last_told, all_answers, own_numbers}
+use Rattle.session_model.specs.Explained.{Transcript, Dialogue, Records, IsCutShort, TakePlaces, complete_requests, last_told, all_answers, own_numbers}
 use Rattle.session_loop.specs.Sessions.{Told, IsSession, IsDialogue, AddsTriedBy, faults_in}
-use Rattle.session_loop.specs.Steps.{Stored, Steps}
+use Rattle.session_loop.specs.Steps.{Stored, Steps, HasCauseAt}
 use Rattle.session_loop.specs.Progress.{Gives, Moment, CutShort, Concludes, texts, moments_of, counted}
 use Rattle.session_loop.proofs.GoingLemmas.{grows_nothing, grows_more, shrinks_nothing, steps_more, told_more}
 use Rattle.session_loop.proofs.StepLemmas.{come, keeps_then, longer}
@@ -55,8 +54,9 @@ cut_of mid new (Some answer) short = record {
 }
 
 -- the same entries were told as tried before
-adds_since : (client : ℕ) (answers : List Answer) (first old new : List Entry) → old ≡ first → AddsTriedBy client answers old new → AddsTriedBy client answers first new
-adds_since client answers first old new same adds = subst (λ (l : List Entry). AddsTriedBy client answers l new) same adds
+adds_since : (first old : List Attempt) (new : Store) (least : ℕ) (answers : List Answer) (places : TakePlaces new.tells (HasCauseAt new) new.start new.history new.client least answers)
+    → old ≡ first → AddsTriedBy old new least answers places → AddsTriedBy first new least answers places
+adds_since first old new least answers places same adds = subst (λ (l : List Attempt). AddsTriedBy l new least answers places) same adds
 
 -- the store was asked for its number, and then for what steps came to
 dialogue_of : (asked old new : Stored) (transcript : Transcript) (dialogue : Dialogue) → Keeps asked.told old.told → IsAlike asked.told old.told → old.health ≡ asked.health
@@ -81,7 +81,7 @@ dialogue_of asked old new transcript dialogue kept alike same records steps =
       ages = subst (λ (h : Health). Ages h new.health) same it.ages;
       faults = subst (λ (h : Health). min (h.faults + faults_in (all_answers dialogue)) last_count ≤ new.health.faults) same it.faults;
       quiet = λ none. it.quiet none ∙ same;
-      tried = adds_since new.told.client (all_answers dialogue) asked.told.tried old.told.tried new.told.tried alike.tried it.tried;
+      tried = adds_since asked.told.tried old.told.tried new.told (length old.told.history) (all_answers dialogue) it.places alike.tried it.tried;
     }
 
 pub concluded : (asked : Stored) (a c : Moment) (read : List ℕ) (report : Report) → Keeps asked.told a.saying.store.told → IsAlike asked.told a.saying.store.told
@@ -187,6 +187,6 @@ asked_before first asked new before now report kept alike same session =
         ages = subst (λ (h : Health). Ages h new.health) same it.ages;
         faults = subst (λ (h : Health). min (h.faults + faults_in (all_answers session.dialogue)) last_count ≤ new.health.faults) same it.faults;
         quiet = λ none. it.quiet none ∙ same;
-        tried = adds_since new.told.client (all_answers session.dialogue) first.told.tried asked.told.tried new.told.tried alike.tried it.tried;
+        tried = adds_since first.told.tried asked.told.tried new.told it.opening (all_answers session.dialogue) it.told.places alike.tried it.tried;
       };
     }

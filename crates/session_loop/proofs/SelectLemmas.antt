@@ -1,5 +1,5 @@
 -- What a view leaves of a session's step.
-use Rattle.std.proofs.Common.{◌≡◌, ◌<◌, ◌≤◌, ◌^◌, ◌≢◌, ℕ, ℤ, pos, negsuc, Bool, true, false, not, ◌==◌, List, [], ◌∷◌, ◌++◌, length, map, refl, sym, ap, ◌∙◌, subst, arith, inl, inr, Some, None, nat_eq, IsTrue, All, Option, Result, Ok, Err, IfOk, if◌then◌else◌}
+use Rattle.std.proofs.Common.{◌+◌, ◌≡◌, ◌<◌, ◌≤◌, ◌^◌, ◌≢◌, ℕ, ℤ, pos, negsuc, Bool, true, false, not, ◌==◌, List, [], ◌∷◌, ◌++◌, length, map, refl, sym, ap, ◌∙◌, subst, arith, inl, inr, Some, None, nat_eq, IsTrue, All, Option, Result, Ok, Err, IfOk, if◌then◌else◌}
 use Rattle.std.specs.Prelude.{IsSome, IsErrOf}
 use Rattle.std.specs.Cmp.Lexicographic.{pointwise, nat_list_eq_equiv}
 use Rattle.std.proofs.lemmas.Bool.{false≢true}
@@ -165,7 +165,7 @@ view_step old mid new answer first second out own tried none readable ages fault
   ages = ages;
   fault = fault;
   quiet = quiet;
-  tried = adds_none new.told.client answer old.told.tried new.told.tried tried;
+  tried = adds_none new.told.client answer (new.told.start.number + length mid.told.history) old.told.tried new.told.tried tried;
 }
 
 -- how a store ages while a view is out

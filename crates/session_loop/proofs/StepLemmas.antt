@@ -1,6 +1,6 @@
 -- What a step of a session is, and what steps one after another are.
 use Rattle.std.proofs.Common.{◌≡◌, ◌≢◌, ◌<◌, ◌≤◌, ◌+◌, ◌^◌, ℕ, zero, suc, ℤ, min, Bool, true, false, nat_lt, List, [], ◌∷◌, ◌++◌, length, take, refl, sym, ap, ◌∙◌, subst, append_assoc, arith, inl, inr, ◌⊎◌, Option, Some, None, IfSome, IsTrue, length-append, slice_get, All, if◌then◌else◌}
-use Rattle.std.specs.Prelude.{IsSome, IsSomeAnd, Any, Contains}
+use Rattle.std.specs.Prelude.{IsSome, IsSomeAnd, Contains}
 use Rattle.std.specs.List.{flat_map}
 use Rattle.std.proofs.lemmas.Bool.{false≢true}
 use Rattle.std.proofs.lemmas.Bool.Decides.{nat_tests}
@@ -14,7 +14,7 @@ use Rattle.point_model.specs.declared.entry.Entry.{Entry}
 use Rattle.point_model.specs.Histories.{State, state_after}
 use Rattle.point_model.specs.declared.entry.Entry.TheVariants.{Write as Write_entry, Delete as Delete_entry}
 use Rattle.point_model.specs.Acceptance.{Conflict, conflict}
-use Rattle.store_trait.specs.Told.{Told, Limits, Keeps, IsAlike, Refuses, IsLater, state_now}
+use Rattle.store_trait.specs.Told.{Attempt, Told, Limits, Keeps, IsAlike, Refuses, IsLater, state_now}
 use Rattle.store_trait.specs.Calls.Entry.{Accepts}
 use Rattle.store_trait.specs.Calls.Write.{FitsCache, FitsSeries, PassesCache, PassesSeries}
 use Rattle.point_model.specs.declared.deletion.Deletion.{Deletion}
@@ -27,7 +27,7 @@ use Rattle.session_model.specs.Readable.{IsReadable}
 use Rattle.session_model.specs.Replies.{Reply, accepted}
 use Rattle.session_model.specs.Replies.Reply.{Accepted, Found, Reached, NotReached, NotBuilt, Refused, TypeConflict, HistoryFull, OutOfMemory, DeviceFault, Damaged, CacheFull, SeriesFull}
 use Rattle.session_model.specs.Machine.{Answer, Served, Serves as Is_machines, IsAside, TriesEntry, serve_batch, serve_entry}
-use Rattle.session_model.specs.Explained.{IsGivenAt, TakePlaces}
+use Rattle.session_model.specs.Explained.{IsGivenAt, TakePlaces, TriesAt}
 use Rattle.session_loop.specs.Sessions.{AddsTriedBy, is_fault, faults_in}
 use Rattle.session_loop.specs.Steps.{Stored, Step, Steps, Serves, AddsTried, CouldTake, FitsHeld, CouldFail, ReplyHasCause, HasCause, HasCauseAt, answer_to}
 use Rattle.session_loop.specs.Texts.{IsTextOf, IsLong}
@@ -71,6 +71,14 @@ places_later : (tells : Bool) (Cause : List Entry → Answer → Type 0) (start 
     → least ≤ most → TakePlaces tells Cause start history client most answers → TakePlaces tells Cause start history client least answers
 places_later tells Cause start history client least most [] low places = places
 places_later tells Cause start history client least most (answer ∷ answers) low places = (places.0, let high = places.1 in omega arith, places.2, places.3)
+
+-- what answers tried, they tried at their places
+tries_later : (tells : Bool) (Cause : List Entry → Answer → Type 0) (start : State) (history : List Entry) (client least most : ℕ) (answers : List Answer)
+    (low : least ≤ most) (places : TakePlaces tells Cause start history client most answers) (attempt : Attempt) → TriesAt tells Cause start history client most answers places attempt
+    → TriesAt tells Cause start history client least answers (places_later tells Cause start history client least most answers low places) attempt
+unfolding places_later
+tries_later tells Cause start history client least most [] low places attempt tries = tries
+tries_later tells Cause start history client least most (answer ∷ answers) low places attempt tries = tries
 
 -- What a store keeps.
 
@@ -199,45 +207,33 @@ cause_later tells tells' limits limits' series series' start start' before answe
 
 -- Entries that were tried.
 
-tries_same : (client other : ℕ) (entry : Entry) (answer : Answer) → other ≡ client → TriesEntry client entry answer → TriesEntry other entry answer
-tries_same client other entry answer same tries = subst (λ (c : ℕ). TriesEntry c entry answer) (sym same) tries
-
-any_here : {X : Type 0} (P : X → Type 0) (x : X) (xs : List X) → P x → Any P (x ∷ xs)
-any_here P x xs is = (0, x, omega arith, refl, is)
-
-any_behind : {X : Type 0} (P : X → Type 0) (x : X) (xs : List X) → Any P xs → Any P (x ∷ xs)
-any_behind P x xs (k, y, below, at, is) = (suc k, y, omega (arith, below), at, is)
-
--- the first answer, and those behind it
-adds_more : (client mid_client : ℕ) (answer : Answer) (answers : List Answer) (old mid new : List Entry) → client ≡ mid_client
-    → AddsTried mid_client answer old mid → AddsTriedBy client answers mid new → AddsTriedBy client (answer ∷ answers) old new
-adds_more client mid_client answer answers old mid new same first rest entry told = elim (rest entry told) [
-  | inl before ↦ elim (first entry before) [
-    | inl earlier ↦ inl earlier
-    | inr tries ↦ inr (any_here (TriesEntry client entry) answer answers (tries_same mid_client client entry answer same tries))
-  ]
-  | inr later ↦ inr (any_behind (TriesEntry client entry) answer answers later)
-]
+-- what an answer tried, in the words of a store that keeps the client and the start
+tries_kept : (mid new : Told) (answer : Answer) (place : ℕ) (attempt : Attempt) → Keeps mid new → TriesEntry mid.client attempt.1 answer → attempt.0 ≡ mid.start.number + place
+    → TriesEntry new.client attempt.1 answer × (attempt.0 ≡ new.start.number + place)
+tries_kept mid new answer place attempt kept tries is = (
+  subst (λ (c : ℕ). TriesEntry c attempt.1 answer) (sym kept.client) tries,
+  is ∙ ap (λ (s : State). s.number + place) (sym kept.start),
+)
 
 -- no entry more is told as tried
-pub adds_none : (client : ℕ) (answer : Answer) (old new : List Entry) → new ≡ old → AddsTried client answer old new
-adds_none client answer old new same entry told = inl (subst (λ (l : List Entry). Contains l entry) same told)
+pub adds_none : (client : ℕ) (answer : Answer) (number : ℕ) (old new : List Attempt) → new ≡ old → AddsTried client answer number old new
+adds_none client answer number old new same attempt told = inl (subst (λ (l : List Attempt). Contains l attempt) same told)
 
 -- An answer made no entry and left no view; it may have tried one.
 pub record MakesNone (client : ℕ) (answer : Answer) (old new : Told) : Type 0 where
   pub own : new.own ≡ old.own
   pub out : new.out ≡ old.out
-  pub tried : AddsTried client answer old.tried new.tried
+  pub tried : AddsTried client answer (state_now new).number old.tried new.tried
 
 pub alike_makes_none : (client : ℕ) (answer : Answer) (old new : Told) → IsAlike old new → MakesNone client answer old new
-alike_makes_none client answer old new alike = record { own = alike.own; out = alike.out; tried = adds_none client answer old.tried new.tried alike.tried }
+alike_makes_none client answer old new alike = record { own = alike.own; out = alike.out; tried = adds_none client answer (state_now new).number old.tried new.tried alike.tried }
 
 -- an entry that may not have been tried was refused
 pub untried_makes_none : (asked : Entry) (client : ℕ) (answer : Answer) (old new : Told) → Refuses asked ⊥ old new → MakesNone client answer old new
 untried_makes_none asked client answer old new refuses = record {
   own = refuses.own;
   out = refuses.out;
-  tried = λ entry told. elim (refuses.tried entry told) [ inl before ↦ inl before | inr tried ↦ absurd tried.0 ];
+  tried = λ attempt told. elim (refuses.tried attempt told) [ inl before ↦ inl before | inr tried ↦ absurd tried.0 ];
 }
 
 -- an entry that may have been tried was refused, and the answer tells that
@@ -246,9 +242,9 @@ pub tried_makes_none : (asked : Entry) (may : Type 0) (client : ℕ) (answer : A
 tried_makes_none asked may client answer old new tries refuses = record {
   own = refuses.own;
   out = refuses.out;
-  tried = λ entry told. elim (refuses.tried entry told) [
+  tried = λ attempt told. elim (refuses.tried attempt told) [
     | inl before ↦ inl before
-    | inr tried ↦ inr (subst (λ (e : Entry). TriesEntry client e answer) tried.1 tries)
+    | inr tried ↦ inr (subst (λ (a : Attempt). TriesEntry client a.1 answer × (a.0 ≡ (state_now new).number)) tried.1 (tries, refl))
   ];
 }
 
@@ -263,8 +259,8 @@ pub record Come (old : Stored) (answers : List Answer) (new : Stored) : Type 0 w
   pub ages : Ages old.health new.health
   pub faults : min (old.health.faults + faults_in answers) last_count ≤ new.health.faults
   pub quiet : faults_in answers ≡ 0 → new.health ≡ old.health
-  pub tried : AddsTriedBy new.told.client answers old.told.tried new.told.tried
   pub places : TakePlaces new.told.tells (HasCauseAt new.told) new.told.start new.told.history new.told.client (length old.told.history) answers
+  pub tried : AddsTriedBy old.told.tried new.told (length old.told.history) answers places
 
 fault_counted : (reply : Reply) (old new : Health) → Ages old new → (reply ≡ DeviceFault → Rose old.faults new.faults) → min (old.faults + (if is_fault reply then 1 else 0)) last_count ≤ new.faults
 fault_counted DeviceFault old new ages rose = rose refl
@@ -322,8 +318,8 @@ come old [] new steps = subst (λ (s : Stored). Come old [] s) (sym steps) (reco
   ages = ages_still old.health;
   faults = omega arith;
   quiet = λ none. refl;
-  tried = λ entry told. inl told;
   places = tt;
+  tried = λ attempt told. inl told;
 })
 come old (answer ∷ answers) new steps =
     let mid = steps.0 in
@@ -344,13 +340,19 @@ come old (answer ∷ answers) new steps =
       quiet = λ none.
           rest.quiet (none_in_rest (is_fault answer.reply) (faults_in answers) none)
           ∙ step.quiet (no_fault_told answer.reply (faults_in answers) none);
-      tried = adds_more new.told.client mid.told.client answer answers old.told.tried mid.told.tried new.told.tried rest.kept.client step.tried rest.tried;
       places = (
         step.place,
         step.from,
         given_kept mid.told new.told answer step.place rest.kept step.given,
         places_later new.told.tells (HasCauseAt new.told) new.told.start new.told.history new.told.client (step.place + length (accepted answer.reply)) (length mid.told.history) answers step.to rest.places,
       );
+      tried = λ attempt told. elim (rest.tried attempt told) [
+        | inl before ↦ elim (step.tried attempt before) [
+          | inl earlier ↦ inl earlier
+          | inr tries ↦ inr (inl (tries_kept mid.told new.told answer step.place attempt rest.kept tries.0 tries.1))
+        ]
+        | inr later ↦ inr (inr (tries_later new.told.tells (HasCauseAt new.told) new.told.start new.told.history new.told.client (step.place + length (accepted answer.reply)) (length mid.told.history) answers step.to rest.places attempt later))
+      ];
     }
 
 -- One step.
@@ -524,7 +526,7 @@ module _ (old new : Stored) (request : Request) (moment : ℤ) (made : Entry) (n
         ages = ages_same old.health new.health still;
         fault = λ same. absurd (no_accepted_fault number same);
         quiet = λ other. still;
-        tried = adds_none new.told.client answer old.told.tried new.told.tried accepts.tried;
+        tried = adds_none new.told.client answer (new.told.start.number + length accepts.before) old.told.tried new.told.tried accepts.tried;
       }
     where
       no_accepted_fault : (number : ℕ) → Accepted number ≡ DeviceFault → ⊥

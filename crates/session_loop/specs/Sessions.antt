@@ -1,5 +1,5 @@
 -- What does a whole session owe its client?
-use Rattle.std.specs.Prelude.{◌≡◌, ◌≢◌, ◌⊎◌, ℕ, ◌+◌, ◌≤◌, min, ℤ, Bool, true, false, List, [], ◌∷◌, ◌++◌, length, Any, Contains, Option, IfSome, IsErrOf, Result, if◌then◌else◌}
+use Rattle.std.specs.Prelude.{◌≡◌, ◌≢◌, ◌⊎◌, ℕ, ◌+◌, ◌≤◌, min, ℤ, Bool, true, false, List, [], ◌∷◌, ◌++◌, length, Contains, Option, IfSome, IsErrOf, Result, if◌then◌else◌}
 use Rattle.point_model.specs.declared.entry.Entry.{Entry}
 use Rattle.point_model.specs.Histories.{nothing}
 use Rattle.shard_disk.specs.Health.{Health, Ages, Failed, last_count}
@@ -9,11 +9,11 @@ use Rattle.session_io.specs.declared.report.Report.{Report}
 use Rattle.session_io.specs.declared.report.End.{End}
 use Rattle.session_io.specs.declared.report.End.TheVariants.{Read, SourceFault, SinkFault}
 use Rattle.session_io.specs.Streams.{Grows, Shrinks}
-use Rattle.store_trait.specs.Told.{Attempt, Keeps}
+use Rattle.store_trait.specs.Told.{Attempt, Keeps, Told as Store}
 use Rattle.session_model.specs.Machine.{Answer}
 use Rattle.session_model.specs.Replies.{Reply}
 use Rattle.session_model.specs.Replies.Reply.{Accepted, Found, Reached, NotReached, NotBuilt, Refused, TypeConflict, HistoryFull, OutOfMemory, DeviceFault, Damaged, CacheFull, SeriesFull}
-use Rattle.session_model.specs.Explained.{Transcript, Dialogue, Records, IsTold, Explained, TriesBehind, all_answers, own_numbers}
+use Rattle.session_model.specs.Explained.{Transcript, Dialogue, Records, IsTold, Explained, TakePlaces, TriesAt, all_answers, own_numbers}
 use Rattle.session_loop.specs.Steps.{Stored, HasCauseAt}
 
 -- what a client's source, sink and clock tell at a moment
@@ -63,9 +63,10 @@ abbrev pub faults_in : List Answer → ℕ
 faults_in [] = 0
 faults_in (answer ∷ answers) = (if is_fault answer.reply then 1 else 0) + faults_in answers
 
--- each entry that is told as tried was told so before, or one of these answers to the client tried it where it stands
-abbrev pub AddsTriedBy : ℕ → List Answer → List Attempt → List Attempt → Type 0
-AddsTriedBy client answers old new = (attempt : Attempt) → Contains new attempt → Contains old attempt ⊎ TriesBehind client attempt.0 attempt.1 answers
+-- each entry that the store tells as tried was told so before, or one of these answers tried it, at the place that the answer takes
+abbrev pub AddsTriedBy : (old : List Attempt) (new : Store) (least : ℕ) (answers : List Answer) → TakePlaces new.tells (HasCauseAt new) new.start new.history new.client least answers → Type 0
+AddsTriedBy old new least answers places = (attempt : Attempt) → Contains new.tried attempt
+    → Contains old attempt ⊎ TriesAt new.tells (HasCauseAt new) new.start new.history new.client least answers places attempt
 
 -- What a session over a store did to it: the answers of a dialogue take their places in the history that the store told
 -- before and since, the numbers that became the client's are those that it was told were accepted, no view is left, the
@@ -82,7 +83,7 @@ pub record IsDialogue (old new : Stored) (transcript : Transcript) (dialogue : D
   pub ages : Ages old.health new.health
   pub faults : min (old.health.faults + faults_in (all_answers dialogue)) last_count ≤ new.health.faults
   pub quiet : faults_in (all_answers dialogue) ≡ 0 → new.health ≡ old.health
-  pub tried : AddsTriedBy new.told.client (all_answers dialogue) old.told.tried new.told.tried
+  pub tried : AddsTriedBy old.told.tried new.told opening (all_answers dialogue) told.places
 
 -- What is told has grown by a transcript with this report, of a dialogue over the store. The bytes read are a front of
 -- what was left to read, and all of it where the session ended with the input.

@@ -6,7 +6,7 @@ use Rattle.shard_disk.specs.Health.{Health, Ages, Rose}
 use Rattle.point_model.specs.declared.entry.Entry.{Entry}
 use Rattle.point_model.specs.Acceptance.{IsAccepted}
 use Rattle.point_model.specs.Histories.{State, state_after}
-use Rattle.store_trait.specs.Told.{Attempt, Told, Limits, Keeps, last_number, state_now}
+use Rattle.store_trait.specs.Told.{Attempt, Told, Limits, Keeps, last_number}
 use Rattle.store_trait.specs.Calls.Write.{AreKnown, AreNew, FitsCache, PassesCache, PassesSeries}
 use Rattle.session_model.specs.declared.statement.Statement.{Statement}
 use Rattle.session_model.specs.declared.statement.Statement.TheVariants.{Write, Delete, Select, After, Refused as Refuses, NotBuilt as Unbuilt}
@@ -81,11 +81,9 @@ module _ (tells : Bool) (limits : Option Limits) (series : ℕ) (start : State) 
 abbrev pub HasCauseAt : Told → List Entry → Answer → Type 0
 HasCauseAt told before answer = HasCause told.tells told.limits told.series told.start before answer
 
--- Each entry that is told as tried was told so before, or this answer to the client tried it, behind no fewer entries than the store knew
--- before and no more than it knows since.
-abbrev pub AddsTried : Answer → Told → Told → Type 0
-AddsTried answer old new = (attempt : Attempt) → Contains new.tried attempt
-    → Contains old.tried attempt ⊎ (TriesEntry new.client attempt.1 answer × ((state_now old).number ≤ attempt.0) × (attempt.0 ≤ (state_now new).number))
+-- each entry that is told as tried was told so before, or this answer to the client tried it, behind the entries up to this number
+abbrev pub AddsTried : ℕ → Answer → ℕ → List Attempt → List Attempt → Type 0
+AddsTried client answer number old new = (attempt : Attempt) → Contains new attempt → Contains old attempt ⊎ (TriesEntry client attempt.1 answer × (attempt.0 ≡ number))
 
 -- the answer takes its place in the history behind what the store knew before
 pub record Step (old : Stored) (answer : Answer) (new : Stored) : Type 0 where
@@ -100,7 +98,7 @@ pub record Step (old : Stored) (answer : Answer) (new : Stored) : Type 0 where
   pub ages : Ages old.health new.health
   pub fault : answer.reply ≡ DeviceFault → Rose old.health.faults new.health.faults
   pub quiet : answer.reply ≢ DeviceFault → new.health ≡ old.health
-  pub tried : AddsTried answer old.told new.told
+  pub tried : AddsTried new.told.client answer (new.told.start.number + place) old.told.tried new.told.tried
 
 -- these answers, one after another
 abbrev pub Steps : Stored → List Answer → Stored → Type 0

@@ -37,6 +37,14 @@ TakePlaces tells HasCause start history client least (answer ∷ answers) = (pla
     × IsGivenAt tells HasCause start history client answer place
     × TakePlaces tells HasCause start history client (place + length (accepted answer.reply)) answers
 
+-- One of the answers, which take these places, refused the entry, and its place is behind exactly the entries up to the number.
+abbrev pub TriesAt : (tells : Bool) (HasCause : List Entry → Answer → Type 0) (start : State) (history : List Entry) (client least : ℕ) (answers : List Answer)
+    → TakePlaces tells HasCause start history client least answers → ℕ × Entry → Type 0
+TriesAt tells HasCause start history client least [] places attempt = ⊥
+TriesAt tells HasCause start history client least (answer ∷ answers) places attempt =
+    (TriesEntry client attempt.1 answer × (attempt.0 ≡ start.number + places.0))
+    ⊎ TriesAt tells HasCause start history client (places.0 + length (accepted answer.reply)) answers places.3 attempt
+
 -- the part is a proper front of the reply, or there is no further reply and no part
 abbrev pub IsCutShort : List ℕ → Option Answer → Type 0
 IsCutShort part None = part ≡ []
@@ -83,23 +91,6 @@ pub record Records (opening : ℕ) (transcript : Transcript) (dialogue : Dialogu
 abbrev pub own_numbers : Dialogue → List ℕ
 own_numbers dialogue = flat_map (λ answer. accepted answer.reply) (all_answers dialogue)
 
--- One of the answers to the client refused this entry, where this was the number of the last one: no number told before it is greater, and
--- none told since is smaller, nor is one of an entry that was accepted since the same.
-pub record TriesBehind (client number : ℕ) (entry : Entry) (answers : List Answer) : Type 0 where
-  pub before : List Answer
-  pub answer : Answer
-  pub since : List Answer
-  pub are : answers ≡ before ++ answer ∷ since
-  pub tries : TriesEntry client entry answer
-  pub from : All (λ earlier. IfSome earlier.number (λ told. told ≤ number)) before
-  pub to : All (λ later. IfSome later.number (λ told. number ≤ told)) since
-  pub behind : All (λ later. All (λ own. number < own) (accepted later.reply)) since
-
--- one of the dialogues, whose clients are numbered from this one on, has an answer that tried the entry behind the number
-abbrev pub IsTriedIn : ℕ → List Dialogue → ℕ × Entry → Type 0
-IsTriedIn client [] attempt = ⊥
-IsTriedIn client (dialogue ∷ dialogues) attempt = TriesBehind client attempt.0 attempt.1 (all_answers dialogue) ⊎ IsTriedIn (client + 1) dialogues attempt
-
 -- the client was opened at this place of the history, and its answers take their places behind it
 pub record IsTold (tells : Bool) (HasCause : List Entry → Answer → Type 0) (start : State) (history : List Entry) (client : ℕ) (transcript : Transcript) (dialogue : Dialogue) (place : ℕ) : Type 0 where
   pub within : place ≤ length history
@@ -115,6 +106,15 @@ AreToldFrom tells HasCause start history client (transcript ∷ transcripts) (di
     × AreToldFrom tells HasCause start history (client + 1) transcripts dialogues
 AreToldFrom tells HasCause start history client [] (dialogue ∷ dialogues) = ⊥
 AreToldFrom tells HasCause start history client (transcript ∷ transcripts) [] = ⊥
+
+-- one of the clients was refused the entry by an answer whose place is behind exactly the entries up to the number
+abbrev pub IsTriedIn : (tells : Bool) (HasCause : List Entry → Answer → Type 0) (start : State) (history : List Entry) (client : ℕ) (transcripts : List Transcript) (dialogues : List Dialogue)
+    → AreToldFrom tells HasCause start history client transcripts dialogues → ℕ × Entry → Type 0
+IsTriedIn tells HasCause start history client [] dialogues told attempt = ⊥
+IsTriedIn tells HasCause start history client (transcript ∷ transcripts) [] told attempt = ⊥
+IsTriedIn tells HasCause start history client (transcript ∷ transcripts) (dialogue ∷ dialogues) told attempt =
+    TriesAt tells HasCause start history client told.0 (all_answers dialogue) told.1.places attempt
+    ⊎ IsTriedIn tells HasCause start history (client + 1) transcripts dialogues told.2 attempt
 
 -- the numbers of the entries, from this one on
 abbrev pub numbers_from : ℕ → List Entry → List ℕ
