@@ -159,6 +159,7 @@ module _ {D R W : Type 0} (g : Ghosts D R W) (start : State) (since : ℕ) (hist
 
   lasts_ok : IsSoundThroughout g disk (state_in ran.runs.logs.books) → OnOk closed (IsSoundThroughout g disk (state_after start history)) → Lasts g disk since start history tried closed
   lasts_ok sound exactly = record {
+    later = (closes.ran told start since ran.made ran.refused ran.doubt ran.runs.logs).later;
     made = ran.made;
     are = ran.are;
     refused = ran.refused;
@@ -177,6 +178,7 @@ module _ {D R W : Type 0} (g : Ghosts D R W) (start : State) (since : ℕ) (hist
 
   lasts_err : Left → OnOk closed (IsSoundThroughout g disk (state_after start history)) → Lasts g disk since start history tried closed
   lasts_err left exactly = record {
+    later = (closes.ran told start since ran.made ran.refused ran.doubt ran.runs.logs).later;
     made = ran.made;
     are = ran.are;
     refused = ran.refused;

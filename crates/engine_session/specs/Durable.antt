@@ -1,5 +1,5 @@
 -- What does a disk owe the entries of a history that was closed?
-use Rattle.std.specs.Prelude.{◌≡◌, ℕ, ◌+◌, List, length, Contains, Option, Result, OnOk}
+use Rattle.std.specs.Prelude.{◌≡◌, ◌≤◌, ℕ, ◌+◌, List, length, Contains, Option, Result, OnOk}
 use Rattle.std.specs.List.{AllByRecursion}
 use Rattle.std.specs.Option.{option_to_list}
 use Rattle.shard_disk.specs.Directory.{Directory}
@@ -16,6 +16,7 @@ use Rattle.shard_state.specs.Opening.{IsSoundThroughout, IsSoundWithAtMost}
 -- the one that is in doubt or without; and where closing was Ok the disk stands for exactly the state behind them, whatever crash comes.
 -- Either way the disk is sound as it is opened again, for that state or with the entry in doubt.
 pub record Lasts {D R W : Type 0} (g : Ghosts D R W) (disk : D) (since : ℕ) (start : State) (history : List Entry) (tried : List Attempt) (closed : Result (Unit {0}) Trouble) : Type 0 where
+  pub later : since ≤ (g.crashes disk).moment
   pub made : List Made
   pub are : entries_of made ≡ history
   pub refused : List Attempt
