@@ -4,9 +4,8 @@ use Rattle.std.specs.Option.{option_to_list}
 use Rattle.std.proofs.lemmas.List.{map-append}
 use Rattle.std.proofs.lemmas.List.Elements.{All-nil}
 use Rattle.shard_disk.specs.Health.{Health, Ages, last_count}
-use Rattle.point_model.specs.declared.entry.Entry.{Entry}
 use Rattle.point_model.specs.Histories.{State}
-use Rattle.store_trait.specs.Told.{Keeps, IsAlike, state_now}
+use Rattle.store_trait.specs.Told.{Attempt, Keeps, IsAlike, state_now}
 use Rattle.session_io.specs.declared.report.Report.{Report}
 use Rattle.session_io.specs.declared.report.End.TheVariants.{Read, Memory}
 use Rattle.session_io.specs.Streams.{Grows}
@@ -55,8 +54,8 @@ cut_of mid new (Some answer) short = record {
 }
 
 -- the same entries were told as tried before
-adds_since : (client : ℕ) (answers : List Answer) (first old new : List Entry) → old ≡ first → AddsTriedBy client answers old new → AddsTriedBy client answers first new
-adds_since client answers first old new same adds = subst (λ (l : List Entry). AddsTriedBy client answers l new) same adds
+adds_since : (client : ℕ) (answers : List Answer) (first old new : List Attempt) → old ≡ first → AddsTriedBy client answers old new → AddsTriedBy client answers first new
+adds_since client answers first old new same adds = subst (λ (l : List Attempt). AddsTriedBy client answers l new) same adds
 
 -- the store was asked for its number, and then for what steps came to
 dialogue_of : (asked old new : Stored) (transcript : Transcript) (dialogue : Dialogue) → Keeps asked.told old.told → IsAlike asked.told old.told → old.health ≡ asked.health

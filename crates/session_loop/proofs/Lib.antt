@@ -1,6 +1,7 @@
 pub mod CuttingLemmas
 pub mod GoingLemmas
 pub mod EndingLemmas
+pub mod PlaceLemmas
 pub mod StepLemmas
 pub mod ShapeLemmas
 pub mod PieceLemmas

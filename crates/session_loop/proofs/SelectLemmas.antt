@@ -37,6 +37,7 @@ use Rattle.session_model.specs.Machine.{Answer, shown_row, tables_of}
 use Rattle.session_loop.specs.Merged.{AreRowsOf, AsksAll, IsReadableFound}
 use Rattle.session_loop.specs.Steps.{Stored, Step, Serves, answer_to}
 use Rattle.session_loop.specs.Texts.{IsTextOf, reply_of_view}
+use Rattle.session_loop.proofs.PlaceLemmas.{IsNumberNow, tells_now}
 use Rattle.session_loop.proofs.StepLemmas.{keeps_then, given_kept, given_now, longer, ages_same, IsGivenNow, adds_none, alike_makes_none, step_now, memory_step}
 use Rattle.session_loop.proofs.MergeLemmas.{view_rows}
 
@@ -125,7 +126,7 @@ view_memory old new asks bytes spelled kept alike still = record {
   reply = OutOfMemory;
   spelled = spelled;
   step = λ request moment means. memory_step old new request moment None kept
-      (alike_makes_none new.told.client (answer_to request moment OutOfMemory None) old.told new.told alike) still (inl refl);
+      (alike_makes_none (answer_to request moment OutOfMemory None) old.told new.told alike) still (inl refl);
 }
 
 -- a device failed
@@ -135,7 +136,7 @@ view_refused old new field measurement bytes spelled kept alike ages failed = re
   reply = DeviceFault;
   spelled = spelled;
   step = λ request moment means. step_now old new (answer_to request moment DeviceFault None) kept
-      (alike_makes_none new.told.client (answer_to request moment DeviceFault None) old.told new.told alike) ages refl tt (λ same. failed.rose)
+      (alike_makes_none (answer_to request moment DeviceFault None) old.told new.told alike) ages refl (inl refl) tt (λ same. failed.rose)
       (λ other. absurd (other refl)) (inl (record { aside = tt; cause = (statement.Select field measurement, means, tt); number = inl refl }));
 }
 
@@ -151,9 +152,9 @@ loan_back loan others = by (loan == loan) refl
 -- an answer that is given while a view is out, and stays given when it has ended
 view_step : (old mid new : Stored) (answer : Answer) → Keeps old.told mid.told → Keeps mid.told new.told → new.told.out ≡ old.told.out → new.told.own ≡ old.told.own
     → new.told.tried ≡ old.told.tried
-    → accepted answer.reply ≡ [] → IsReadable answer.reply → Ages old.health new.health → (answer.reply ≡ DeviceFault → Rose old.health.faults new.health.faults)
+    → accepted answer.reply ≡ [] → IsNumberNow mid.told answer.number → IsReadable answer.reply → Ages old.health new.health → (answer.reply ≡ DeviceFault → Rose old.health.faults new.health.faults)
     → (answer.reply ≢ DeviceFault → new.health ≡ old.health) → IsGivenNow mid.told answer → Step old answer new
-view_step old mid new answer first second out own tried none readable ages fault quiet given = record {
+view_step old mid new answer first second out own tried none told readable ages fault quiet given = record {
   kept = keeps_then old.told mid.told new.told first second;
   out = out;
   own = own ∙ sym (append-nil old.told.own) ∙ ap (λ (l : List ℕ). old.told.own ++ l) (sym none);
@@ -165,7 +166,8 @@ view_step old mid new answer first second out own tried none readable ages fault
   ages = ages;
   fault = fault;
   quiet = quiet;
-  tried = adds_none new.told.client answer old.told.tried new.told.tried tried;
+  tried = adds_none answer old.told new.told tried;
+  tells = tells_now old.told mid.told new.told answer first second none told;
 }
 
 -- how a store ages while a view is out
@@ -220,7 +222,7 @@ module _ {X : Type 0} (view : X → List Row) (old mid new : Stored) (field meas
       → IsGivenNow mid.told (answer_to request moment reply (Some number)) → Step old (answer_to request moment reply (Some number)) new
   aside_step rows seen request moment reply none readable fault quiet given =
       view_step old mid new (answer_to request moment reply (Some number)) seen.kept seen.kept_on (out_still rows seen) (seen.ends.own ∙ seen.begins.own)
-      (seen.ends.tried ∙ seen.begins.tried) none readable
+      (seen.ends.tried ∙ seen.begins.tried) none (inr (ap Some (number_now rows seen))) readable
       (view_ages old.health mid.health new.health seen.began seen.now (ages_same old.health mid.health seen.still) seen.fresh seen.cause.ages seen.back) fault quiet given
 
   memory_not_fault : OutOfMemory ≡ DeviceFault → ⊥

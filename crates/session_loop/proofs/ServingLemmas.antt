@@ -55,7 +55,7 @@ pub after_step : (old new : Stored) (wanted number : ℕ) → number ≡ (state_
     → Step old (answer_to request moment (if nat_le wanted number then Reached number else NotReached number) (Some number)) new
 after_step old new wanted number is small kept alike still request moment means =
     let reply : Reply = if nat_le wanted number then Reached number else NotReached number in
-    step_now old new (answer_to request moment reply (Some number)) kept (alike_makes_none new.told.client (answer_to request moment reply (Some number)) old.told new.told alike) (ages_same old.health new.health still) (accepted_at (nat_le wanted number) number) (readable_at (nat_le wanted number) number small)
+    step_now old new (answer_to request moment reply (Some number)) kept (alike_makes_none (answer_to request moment reply (Some number)) old.told new.told alike) (ages_same old.health new.health still) (accepted_at (nat_le wanted number) number) (inr (ap Some is)) (readable_at (nat_le wanted number) number small)
     (λ same. absurd (no_fault_at (nat_le wanted number) number same)) (λ other. still)
     (inr (record {
       asks = statement.After wanted;
@@ -150,36 +150,36 @@ module _ (old new : Stored) (points : List Point) (bytes : List ℕ) (kept : Kee
       → ((why ≡ fault.Fault → ⊥) → new.health ≡ old.health) → Serves old (statement.Write points) bytes (number_in why) new
 
   -- the batch wasn't tried
-  untried : Refuses made ⊥ old.told new.told → (answer : Answer) → MakesNone new.told.client answer old.told new.told
-  untried refuses answer = untried_makes_none made new.told.client answer old.told new.told refuses
+  untried : Refuses made ⊥ old.told new.told → (answer : Answer) → MakesNone answer old.told new.told
+  untried refuses answer = untried_makes_none made answer old.told new.told refuses
 
   -- the batch may have been tried
   tried : {may : Type 0} → Refuses made may old.told new.told → (request : Request) (moment : ℤ) (reply : Reply) → Means request moment (statement.Write points)
-      → (reply ≡ DeviceFault) ⊎ (reply ≡ OutOfMemory) → MakesNone new.told.client (answer_to request moment reply None) old.told new.told
+      → (reply ≡ DeviceFault) ⊎ (reply ≡ OutOfMemory) → MakesNone (answer_to request moment reply None) old.told new.told
   tried {may} refuses request moment reply means refused =
-      tried_makes_none made may new.told.client (answer_to request moment reply None) old.told new.told
-      (record { asks = statement.Write points; means = means; asked = ap (λ (c : ℕ). Some (Write_entry c points)) kept.client; refused = refused }) refuses
+      tried_makes_none made may (answer_to request moment reply None) old.told new.told
+      (record { asks = statement.Write points; means = means; asked = ap (λ (c : ℕ). Some (Write_entry c points)) kept.client; refused = refused }) kept refuses
 
   pub refused_serves : (why : WriteFault) → ServesRefused why
   refused_serves (fault.TypeConflict field held number) refuses spelled readable cause quiet =
       let still = quiet (λ same. cc same) in
       serves_or_memory old new (statement.Write points) bytes (TypeConflict field held number) (Some number) spelled kept (λ long. untried refuses) (λ long. still) (inr (ap Some cause.1)) (λ request moment means.
-      step_now old new (answer_to request moment (TypeConflict field held number) (Some number)) kept (untried refuses (answer_to request moment (TypeConflict field held number) (Some number))) ages refl readable (λ same. absurd (no_conflict_fault field held number same))
+      step_now old new (answer_to request moment (TypeConflict field held number) (Some number)) kept (untried refuses (answer_to request moment (TypeConflict field held number) (Some number))) ages refl (inr (ap Some cause.1)) readable (λ same. absurd (no_conflict_fault field held number same))
       (λ other. still) (inr (conflict_given new.told points request moment field held number means cause.0 cause.1)))
   refused_serves fault.HistoryFull refuses spelled readable cause quiet =
       let still = quiet (λ same. cc same) in
       serves_or_memory old new (statement.Write points) bytes HistoryFull (Some 9223372036854775807) spelled kept (λ long. untried refuses) (λ long. still) (inr (ap Some (sym cause.1))) (λ request moment means.
-      step_now old new (answer_to request moment HistoryFull (Some 9223372036854775807)) kept (untried refuses (answer_to request moment HistoryFull (Some 9223372036854775807))) ages refl tt (λ same. absurd (no_full_fault same))
+      step_now old new (answer_to request moment HistoryFull (Some 9223372036854775807)) kept (untried refuses (answer_to request moment HistoryFull (Some 9223372036854775807))) ages refl (inr (ap Some (sym cause.1))) tt (λ same. absurd (no_full_fault same))
       (λ other. still) (inr (full_given new.told points request moment means cause.0 cause.1)))
   refused_serves (fault.SeriesFull held) refuses spelled readable cause quiet =
       let still = quiet (λ same. cc same) in
       serves_or_memory old new (statement.Write points) bytes (SeriesFull held) None spelled kept (λ long. untried refuses) (λ long. still) (inl refl) (λ request moment means.
-      step_now old new (answer_to request moment (SeriesFull held) None) kept (untried refuses (answer_to request moment (SeriesFull held) None)) ages refl readable (λ same. absurd (no_series_fault held same))
+      step_now old new (answer_to request moment (SeriesFull held) None) kept (untried refuses (answer_to request moment (SeriesFull held) None)) ages refl (inl refl) readable (λ same. absurd (no_series_fault held same))
       (λ other. still) (inl (record { aside = tt; cause = (points, means, could_take new.told points cause.0, cause.1); number = inl refl })))
   refused_serves (fault.CacheFull held) refuses spelled readable cause quiet =
       let still = quiet (λ same. cc same) in
       serves_or_memory old new (statement.Write points) bytes (CacheFull held) None spelled kept (λ long. untried refuses) (λ long. still) (inl refl) (λ request moment means.
-      step_now old new (answer_to request moment (CacheFull held) None) kept (untried refuses (answer_to request moment (CacheFull held) None)) ages refl readable (λ same. absurd (no_cache_fault held same))
+      step_now old new (answer_to request moment (CacheFull held) None) kept (untried refuses (answer_to request moment (CacheFull held) None)) ages refl (inl refl) readable (λ same. absurd (no_cache_fault held same))
       (λ other. still) (inl (record { aside = tt; cause = (points, means, could_take new.told points cause.0, fits_told new.told points cause.1, cause.2); number = inl refl })))
   refused_serves fault.Memory refuses spelled readable cause quiet =
       let still = quiet (λ same. cc same) in
@@ -187,7 +187,7 @@ module _ (old new : Stored) (points : List Point) (bytes : List ℕ) (kept : Kee
       (λ request moment means. memory_step old new request moment None kept (tried refuses request moment OutOfMemory means (inr refl)) still (inl refl))
   refused_serves fault.Fault refuses spelled readable cause quiet =
       serves_or_memory old new (statement.Write points) bytes DeviceFault None spelled kept (λ long. absurd long) (λ long. absurd long) (inl refl) (λ request moment means.
-      step_now old new (answer_to request moment DeviceFault None) kept (tried refuses request moment DeviceFault means (inl refl)) ages refl tt (λ same. cause.0.rose)
+      step_now old new (answer_to request moment DeviceFault None) kept (tried refuses request moment DeviceFault means (inl refl)) ages refl (inl refl) tt (λ same. cause.0.rose)
       (λ other. absurd (other refl))
       (inl (record { aside = tt; cause = (statement.Write points, means, (could_take new.told points cause.1, fits_told new.told points cause.2, cause.3)); number = inl refl })))
 
@@ -215,10 +215,10 @@ module _ (old new : Stored) (deletion : Deletion) (bytes : List ℕ) (kept : Kee
 
   -- the deletion may have been tried
   deletion_tried : {may : Type 0} → Refuses removed may old.told new.told → (request : Request) (moment : ℤ) (reply : Reply) → Means request moment (statement.Delete deletion)
-      → (reply ≡ DeviceFault) ⊎ (reply ≡ OutOfMemory) → MakesNone new.told.client (answer_to request moment reply None) old.told new.told
+      → (reply ≡ DeviceFault) ⊎ (reply ≡ OutOfMemory) → MakesNone (answer_to request moment reply None) old.told new.told
   deletion_tried {may} refuses request moment reply means refused =
-      tried_makes_none removed may new.told.client (answer_to request moment reply None) old.told new.told
-      (record { asks = statement.Delete deletion; means = means; asked = ap (λ (c : ℕ). Some (Delete_entry c deletion)) kept.client; refused = refused }) refuses
+      tried_makes_none removed may (answer_to request moment reply None) old.told new.told
+      (record { asks = statement.Delete deletion; means = means; asked = ap (λ (c : ℕ). Some (Delete_entry c deletion)) kept.client; refused = refused }) kept refuses
 
   pub deletion_refused_serves : (why : DeleteFault) → Refuses removed (MayBeTriedDelete why) old.told new.told → bytes ≡ text (reply_to_deletion why) → DeleteHasCause new.told old.health new.health why
       → ((why ≡ delete_fault.Fault → ⊥) → new.health ≡ old.health) → Serves old (statement.Delete deletion) bytes (number_of_refusal why) new
@@ -227,7 +227,7 @@ module _ (old new : Stored) (deletion : Deletion) (bytes : List ℕ) (kept : Kee
     spelled = spelled;
     step = λ request moment means.
         step_now old new (answer_to request moment HistoryFull (Some 9223372036854775807)) kept
-        (untried_makes_none removed new.told.client (answer_to request moment HistoryFull (Some 9223372036854775807)) old.told new.told refuses) ages refl tt (λ same. absurd (no_full_fault same))
+        (untried_makes_none removed (answer_to request moment HistoryFull (Some 9223372036854775807)) old.told new.told refuses) ages refl (inr (ap Some (sym cause))) tt (λ same. absurd (no_full_fault same))
         (λ other. quiet (λ same. cc same)) (inr (full_deletion_given new.told deletion request moment means cause));
   }
   deletion_refused_serves delete_fault.Memory refuses spelled cause quiet = record {
@@ -239,7 +239,7 @@ module _ (old new : Stored) (deletion : Deletion) (bytes : List ℕ) (kept : Kee
     reply = DeviceFault;
     spelled = spelled;
     step = λ request moment means.
-        step_now old new (answer_to request moment DeviceFault None) kept (deletion_tried refuses request moment DeviceFault means (inl refl)) ages refl tt (λ same. cause.0.rose)
+        step_now old new (answer_to request moment DeviceFault None) kept (deletion_tried refuses request moment DeviceFault means (inl refl)) ages refl (inl refl) tt (λ same. cause.0.rose)
         (λ other. absurd (other refl)) (inl (record { aside = tt; cause = (statement.Delete deletion, means, cause.1); number = inl refl }));
   }
 
@@ -248,15 +248,15 @@ module _ (old new : Stored) (deletion : Deletion) (bytes : List ℕ) (kept : Kee
 pub still_kept : (stored : Stored) → IsAlike stored.told stored.told
 still_kept stored = record { own = refl; out = refl; tried = refl }
 
-makes_nothing : (stored : Stored) (answer : Answer) → MakesNone stored.told.client answer stored.told stored.told
-makes_nothing stored answer = alike_makes_none stored.told.client answer stored.told stored.told (still_kept stored)
+makes_nothing : (stored : Stored) (answer : Answer) → MakesNone answer stored.told stored.told
+makes_nothing stored answer = alike_makes_none answer stored.told stored.told (still_kept stored)
 
 pub refusal_serves : (stored : Stored) (refusal : Refusal) (bytes : List ℕ) → bytes ≡ text (Refused refusal) → IsReadable (Refused refusal) → Serves stored (statement.Refused refusal) bytes None stored
 refusal_serves stored refusal bytes spelled readable = record {
   reply = Refused refusal;
   spelled = spelled;
   step = λ request moment means.
-      step_now stored stored (answer_to request moment (Refused refusal) None) (keeps_still stored.told) (makes_nothing stored (answer_to request moment (Refused refusal) None)) (ages_still stored.health) refl readable (λ same. absurd (no_refused_fault refusal same))
+      step_now stored stored (answer_to request moment (Refused refusal) None) (keeps_still stored.told) (makes_nothing stored (answer_to request moment (Refused refusal) None)) (ages_still stored.health) refl (inl refl) readable (λ same. absurd (no_refused_fault refusal same))
       (λ other. refl) (inr (record { asks = statement.Refused refusal; means = means; points = (state_now stored.told).points; are_told = λ tells. refl; reply = refl; number = refl; entry_made = refl }));
 }
   where
@@ -268,7 +268,7 @@ not_built_serves stored bytes spelled = record {
   reply = NotBuilt;
   spelled = spelled;
   step = λ request moment means.
-      step_now stored stored (answer_to request moment NotBuilt None) (keeps_still stored.told) (makes_nothing stored (answer_to request moment NotBuilt None)) (ages_still stored.health) refl tt (λ same. absurd (no_built_fault same))
+      step_now stored stored (answer_to request moment NotBuilt None) (keeps_still stored.told) (makes_nothing stored (answer_to request moment NotBuilt None)) (ages_still stored.health) refl (inl refl) tt (λ same. absurd (no_built_fault same))
       (λ other. refl) (inr (record { asks = statement.NotBuilt; means = means; points = (state_now stored.told).points; are_told = λ tells. refl; reply = refl; number = refl; entry_made = refl }));
 }
   where

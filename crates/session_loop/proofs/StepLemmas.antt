@@ -1,6 +1,6 @@
 -- What a step of a session is, and what steps one after another are.
 use Rattle.std.proofs.Common.{◌≡◌, ◌≢◌, ◌<◌, ◌≤◌, ◌+◌, ◌^◌, ℕ, zero, suc, ℤ, min, Bool, true, false, nat_lt, List, [], ◌∷◌, ◌++◌, length, take, refl, sym, ap, ◌∙◌, subst, append_assoc, arith, inl, inr, ◌⊎◌, Option, Some, None, IfSome, IsTrue, length-append, slice_get, All, if◌then◌else◌}
-use Rattle.std.specs.Prelude.{IsSome, IsSomeAnd, Any, Contains}
+use Rattle.std.specs.Prelude.{IsSome, IsSomeAnd, Contains}
 use Rattle.std.specs.List.{flat_map}
 use Rattle.std.proofs.lemmas.Bool.{false≢true}
 use Rattle.std.proofs.lemmas.Bool.Decides.{nat_tests}
@@ -14,7 +14,7 @@ use Rattle.point_model.specs.declared.entry.Entry.{Entry}
 use Rattle.point_model.specs.Histories.{State, state_after}
 use Rattle.point_model.specs.declared.entry.Entry.TheVariants.{Write as Write_entry, Delete as Delete_entry}
 use Rattle.point_model.specs.Acceptance.{Conflict, conflict}
-use Rattle.store_trait.specs.Told.{Told, Limits, Keeps, IsAlike, Refuses, IsLater, state_now}
+use Rattle.store_trait.specs.Told.{Attempt, Told, Limits, Keeps, IsAlike, Refuses, IsLater, state_now}
 use Rattle.store_trait.specs.Calls.Entry.{Accepts}
 use Rattle.store_trait.specs.Calls.Write.{FitsCache, FitsSeries, PassesCache, PassesSeries}
 use Rattle.point_model.specs.declared.deletion.Deletion.{Deletion}
@@ -31,6 +31,7 @@ use Rattle.session_model.specs.Explained.{IsGivenAt, TakePlaces}
 use Rattle.session_loop.specs.Sessions.{AddsTriedBy, is_fault, faults_in}
 use Rattle.session_loop.specs.Steps.{Stored, Step, Steps, Serves, AddsTried, CouldTake, FitsHeld, CouldFail, ReplyHasCause, HasCause, HasCauseAt, answer_to}
 use Rattle.session_loop.specs.Texts.{IsTextOf, IsLong}
+use Rattle.session_loop.proofs.PlaceLemmas.{IsNumberNow, number_grows, tells_now, places, adds_by}
 
 -- Histories.
 
@@ -199,58 +200,42 @@ cause_later tells tells' limits limits' series series' start start' before answe
 
 -- Entries that were tried.
 
-tries_same : (client other : ℕ) (entry : Entry) (answer : Answer) → other ≡ client → TriesEntry client entry answer → TriesEntry other entry answer
-tries_same client other entry answer same tries = subst (λ (c : ℕ). TriesEntry c entry answer) (sym same) tries
-
-any_here : {X : Type 0} (P : X → Type 0) (x : X) (xs : List X) → P x → Any P (x ∷ xs)
-any_here P x xs is = (0, x, omega arith, refl, is)
-
-any_behind : {X : Type 0} (P : X → Type 0) (x : X) (xs : List X) → Any P xs → Any P (x ∷ xs)
-any_behind P x xs (k, y, below, at, is) = (suc k, y, omega (arith, below), at, is)
-
--- the first answer, and those behind it
-adds_more : (client mid_client : ℕ) (answer : Answer) (answers : List Answer) (old mid new : List Entry) → client ≡ mid_client
-    → AddsTried mid_client answer old mid → AddsTriedBy client answers mid new → AddsTriedBy client (answer ∷ answers) old new
-adds_more client mid_client answer answers old mid new same first rest entry told = elim (rest entry told) [
-  | inl before ↦ elim (first entry before) [
-    | inl earlier ↦ inl earlier
-    | inr tries ↦ inr (any_here (TriesEntry client entry) answer answers (tries_same mid_client client entry answer same tries))
-  ]
-  | inr later ↦ inr (any_behind (TriesEntry client entry) answer answers later)
-]
-
 -- no entry more is told as tried
-pub adds_none : (client : ℕ) (answer : Answer) (old new : List Entry) → new ≡ old → AddsTried client answer old new
-adds_none client answer old new same entry told = inl (subst (λ (l : List Entry). Contains l entry) same told)
+pub adds_none : (answer : Answer) (old new : Told) → new.tried ≡ old.tried → AddsTried answer old new
+adds_none answer old new same attempt told = inl (subst (λ (l : List Attempt). Contains l attempt) same told)
 
 -- An answer made no entry and left no view; it may have tried one.
-pub record MakesNone (client : ℕ) (answer : Answer) (old new : Told) : Type 0 where
+pub record MakesNone (answer : Answer) (old new : Told) : Type 0 where
   pub own : new.own ≡ old.own
   pub out : new.out ≡ old.out
-  pub tried : AddsTried client answer old.tried new.tried
+  pub tried : AddsTried answer old new
 
-pub alike_makes_none : (client : ℕ) (answer : Answer) (old new : Told) → IsAlike old new → MakesNone client answer old new
-alike_makes_none client answer old new alike = record { own = alike.own; out = alike.out; tried = adds_none client answer old.tried new.tried alike.tried }
+pub alike_makes_none : (answer : Answer) (old new : Told) → IsAlike old new → MakesNone answer old new
+alike_makes_none answer old new alike = record { own = alike.own; out = alike.out; tried = adds_none answer old new alike.tried }
 
 -- an entry that may not have been tried was refused
-pub untried_makes_none : (asked : Entry) (client : ℕ) (answer : Answer) (old new : Told) → Refuses asked ⊥ old new → MakesNone client answer old new
-untried_makes_none asked client answer old new refuses = record {
+pub untried_makes_none : (asked : Entry) (answer : Answer) (old new : Told) → Refuses asked ⊥ old new → MakesNone answer old new
+untried_makes_none asked answer old new refuses = record {
   own = refuses.own;
   out = refuses.out;
-  tried = λ entry told. elim (refuses.tried entry told) [ inl before ↦ inl before | inr tried ↦ absurd tried.0 ];
+  tried = λ attempt told. elim (refuses.tried attempt told) [ inl before ↦ inl before | inr tried ↦ absurd tried.0 ];
 }
 
 -- an entry that may have been tried was refused, and the answer tells that
-pub tried_makes_none : (asked : Entry) (may : Type 0) (client : ℕ) (answer : Answer) (old new : Told) → TriesEntry client asked answer → Refuses asked may old new
-    → MakesNone client answer old new
-tried_makes_none asked may client answer old new tries refuses = record {
-  own = refuses.own;
-  out = refuses.out;
-  tried = λ entry told. elim (refuses.tried entry told) [
-    | inl before ↦ inl before
-    | inr tried ↦ inr (subst (λ (e : Entry). TriesEntry client e answer) tried.1 tries)
-  ];
-}
+pub tried_makes_none : (asked : Entry) (may : Type 0) (answer : Answer) (old new : Told) → TriesEntry new.client asked answer → Keeps old new → Refuses asked may old new
+    → MakesNone answer old new
+tried_makes_none asked may answer old new tries kept refuses =
+    let grows = number_grows old new kept in
+    let here : Attempt = ((state_now new).number, asked) in
+    record {
+      own = refuses.own;
+      out = refuses.out;
+      tried = λ attempt told. elim (refuses.tried attempt told) [
+        | inl before ↦ inl before
+        | inr tried ↦ inr (subst (λ (a : Attempt). TriesEntry new.client a.1 answer × ((state_now old).number ≤ a.0) × (a.0 ≤ (state_now new).number)) tried.1
+            (tries, grows, omega arith))
+      ];
+    }
 
 -- Steps, one after another.
 
@@ -344,7 +329,7 @@ come old (answer ∷ answers) new steps =
       quiet = λ none.
           rest.quiet (none_in_rest (is_fault answer.reply) (faults_in answers) none)
           ∙ step.quiet (no_fault_told answer.reply (faults_in answers) none);
-      tried = adds_more new.told.client mid.told.client answer answers old.told.tried mid.told.tried new.told.tried rest.kept.client step.tried rest.tried;
+      tried = adds_by old (answer ∷ answers) new (places old (answer ∷ answers) new steps);
       places = (
         step.place,
         step.from,
@@ -370,10 +355,10 @@ given_now told answer given =
     )
 
 -- a step that makes no entry
-pub step_now : (old new : Stored) (answer : Answer) → Keeps old.told new.told → MakesNone new.told.client answer old.told new.told → Ages old.health new.health
-    → accepted answer.reply ≡ [] → IsReadable answer.reply → (answer.reply ≡ DeviceFault → Rose old.health.faults new.health.faults)
+pub step_now : (old new : Stored) (answer : Answer) → Keeps old.told new.told → MakesNone answer old.told new.told → Ages old.health new.health
+    → accepted answer.reply ≡ [] → IsNumberNow new.told answer.number → IsReadable answer.reply → (answer.reply ≡ DeviceFault → Rose old.health.faults new.health.faults)
     → (answer.reply ≢ DeviceFault → new.health ≡ old.health) → IsGivenNow new.told answer → Step old answer new
-step_now old new answer kept makes ages none readable fault quiet given = record {
+step_now old new answer kept makes ages none told readable fault quiet given = record {
   kept = kept;
   out = makes.out;
   own = makes.own ∙ sym (append-nil old.told.own) ∙ ap (λ (l : List ℕ). old.told.own ++ l) (sym none);
@@ -386,11 +371,8 @@ step_now old new answer kept makes ages none readable fault quiet given = record
   fault = fault;
   quiet = quiet;
   tried = makes.tried;
+  tells = tells_now old.told new.told new.told answer kept (keeps_still new.told) none told;
 }
-
--- no number was told, or that of the last entry
-abbrev pub IsNumberNow : Told → Option ℕ → Type 0
-IsNumberNow told number = (number ≡ None) ⊎ (number ≡ Some (state_now told).number)
 
 no_memory_fault : OutOfMemory ≡ DeviceFault → ⊥
 no_memory_fault same = cc
@@ -400,15 +382,15 @@ ages_same old new same = subst (λ (h : Health). Ages old h) (sym same) (ages_st
 
 -- there was no memory for an answer
 pub memory_step : (old new : Stored) (request : Request) (moment : ℤ) (number : Option ℕ) → Keeps old.told new.told
-    → MakesNone new.told.client (answer_to request moment OutOfMemory number) old.told new.told → new.health ≡ old.health
+    → MakesNone (answer_to request moment OutOfMemory number) old.told new.told → new.health ≡ old.health
     → IsNumberNow new.told number → Step old (answer_to request moment OutOfMemory number) new
 memory_step old new request moment number kept makes still told =
-    step_now old new (answer_to request moment OutOfMemory number) kept makes (ages_same old.health new.health still) refl tt (λ same. absurd (no_memory_fault same))
+    step_now old new (answer_to request moment OutOfMemory number) kept makes (ages_same old.health new.health still) refl told tt (λ same. absurd (no_memory_fault same))
     (λ other. still) (inl (record { aside = tt; cause = tt; number = told }))
 
 -- the bytes are a reply that the store's end gives, or tell that there was no memory for it
 pub serves_or_memory : (old new : Stored) (asks : Statement) (bytes : List ℕ) (reply : Reply) (number : Option ℕ) → IsTextOf reply bytes
-    → Keeps old.told new.told → (IsLong reply → (answer : Answer) → MakesNone new.told.client answer old.told new.told) → (IsLong reply → new.health ≡ old.health) → IsNumberNow new.told number
+    → Keeps old.told new.told → (IsLong reply → (answer : Answer) → MakesNone answer old.told new.told) → (IsLong reply → new.health ≡ old.health) → IsNumberNow new.told number
     → ((request : Request) (moment : ℤ) → Means request moment asks → Step old (answer_to request moment reply number) new) → Serves old asks bytes number new
 serves_or_memory old new asks bytes reply number (inl spelled) kept makes still told step = record { reply = reply; spelled = spelled; step = step }
 serves_or_memory old new asks bytes reply number (inr spelled) kept makes still told step = record {
@@ -501,6 +483,12 @@ module _ (old new : Stored) (request : Request) (moment : ℤ) (made : Entry) (n
   is_below : behind.number < 9223372036854775807
   is_below = let next = is_next in let limit = accepts.limit in omega arith
 
+  number_above : (state_now old.told).number < number
+  number_above =
+      let next = is_next in
+      let more = longer old.told.history accepts.before accepts.later in
+      omega arith
+
   made_step : Is_machines old.told.tells behind old.told.client (answer_to request moment (Accepted number) (Some number)) (Some made)
       → Step old (answer_to request moment (Accepted number) (Some number)) new
   made_step serves =
@@ -508,6 +496,8 @@ module _ (old new : Stored) (request : Request) (moment : ℤ) (made : Entry) (n
       let sum = length-append before (made ∷ []) in
       let len = ap length accepts.entry in
       let answer : Answer = answer_to request moment (Accepted number) (Some number) in
+      let above = number_above in
+      let now = accepts.given in
       record {
         kept = kept;
         out = accepts.out;
@@ -524,7 +514,11 @@ module _ (old new : Stored) (request : Request) (moment : ℤ) (made : Entry) (n
         ages = ages_same old.health new.health still;
         fault = λ same. absurd (no_accepted_fault number same);
         quiet = λ other. still;
-        tried = adds_none new.told.client answer old.told.tried new.told.tried accepts.tried;
+        tried = adds_none answer old.told new.told accepts.tried;
+        tells = record {
+          told = (omega (arith, above), omega (arith, now));
+          own = All-cons (λ (n : ℕ). (state_now old.told).number < n) number [] number_above (All-nil (λ (n : ℕ). (state_now old.told).number < n));
+        };
       }
     where
       no_accepted_fault : (number : ℕ) → Accepted number ≡ DeviceFault → ⊥

@@ -1,5 +1,5 @@
 -- What does a whole session owe its client?
-use Rattle.std.specs.Prelude.{◌≡◌, ◌≢◌, ◌⊎◌, ℕ, ◌+◌, ◌≤◌, min, ℤ, Bool, true, false, List, [], ◌∷◌, ◌++◌, length, Any, Contains, Option, IfSome, IsErrOf, Result, if◌then◌else◌}
+use Rattle.std.specs.Prelude.{◌≡◌, ◌≢◌, ◌⊎◌, ℕ, ◌+◌, ◌≤◌, min, ℤ, Bool, true, false, List, [], ◌∷◌, ◌++◌, length, Contains, Option, IfSome, IsErrOf, Result, if◌then◌else◌}
 use Rattle.point_model.specs.declared.entry.Entry.{Entry}
 use Rattle.point_model.specs.Histories.{nothing}
 use Rattle.shard_disk.specs.Health.{Health, Ages, Failed, last_count}

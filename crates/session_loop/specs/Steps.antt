@@ -1,5 +1,5 @@
 -- What does one answer of a session do with its store?
-use Rattle.std.specs.Prelude.{◌≡◌, ◌≢◌, ◌⊎◌, ℕ, ◌+◌, ◌<◌, ◌≤◌, ℤ, Bool, IsTrue, false, List, [], ◌∷◌, ◌++◌, length, Contains, Option, IfSome, IsSome, IsSomeAnd, Result, Ok, Err}
+use Rattle.std.specs.Prelude.{◌≡◌, ◌≢◌, ◌⊎◌, ℕ, ◌+◌, ◌<◌, ◌≤◌, ℤ, Bool, IsTrue, false, List, [], ◌∷◌, ◌++◌, length, All, Contains, Option, IfSome, IsSome, IsSomeAnd, Result, Ok, Err}
 use Rattle.std.specs.declared.alloc.AllocError.{AllocError}
 use Rattle.tsdb_types.specs.declared.point.Point.{Point}
 use Rattle.shard_disk.specs.Health.{Health, Ages, Rose}
@@ -87,6 +87,11 @@ abbrev pub AddsTried : Answer → Told → Told → Type 0
 AddsTried answer old new = (attempt : Attempt) → Contains new.tried attempt
     → Contains old.tried attempt ⊎ (TriesEntry new.client attempt.1 answer × ((state_now old).number ≤ attempt.0) × (attempt.0 ≤ (state_now new).number))
 
+-- The number that the answer tells, if it tells one, lies between these, and that of an entry which it tells was accepted is none up to the lesser.
+pub record TellsBetween (least most : ℕ) (answer : Answer) : Type 0 where
+  pub told : IfSome answer.number (λ number. (least ≤ number) × (number ≤ most))
+  pub own : All (λ number. least < number) (accepted answer.reply)
+
 -- the answer takes its place in the history behind what the store knew before
 pub record Step (old : Stored) (answer : Answer) (new : Stored) : Type 0 where
   pub kept : Keeps old.told new.told
@@ -101,6 +106,7 @@ pub record Step (old : Stored) (answer : Answer) (new : Stored) : Type 0 where
   pub fault : answer.reply ≡ DeviceFault → Rose old.health.faults new.health.faults
   pub quiet : answer.reply ≢ DeviceFault → new.health ≡ old.health
   pub tried : AddsTried answer old.told new.told
+  pub tells : TellsBetween (state_now old.told).number (state_now new.told).number answer
 
 -- these answers, one after another
 abbrev pub Steps : Stored → List Answer → Stored → Type 0
