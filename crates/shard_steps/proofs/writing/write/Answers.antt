@@ -73,7 +73,8 @@ returns-clause-goes_on g c =
     let old = c.args.shard.now in
     let mid = c.prepare.new.self in
     let commits = c.commit.ensures.commits in
-    let steps = goes_behind g.D.Disk c.args.client c.args.batch.now old mid c.commit.new.self (runs_roomy g.D.Disk old mid mid.logs.series.room c.prepare.ensures.logs c.prepare.ensures.points) c.commit.result c.commit.ensures.goes_on in
+    let steps = goes_behind g.D.Disk c.args.client c.args.batch.now old mid c.commit.new.self (runs_roomy g.D.Disk old mid mid.logs.series.room c.prepare.ensures.logs c.prepare.ensures.points) c.commit.result
+    (ap (λ (l : Logs g.row.D.Denot). l.number) c.prepare.ensures.logs) c.commit.ensures.goes_on in
     record {
       ok = steps.ok;
       stays = steps.stays;

@@ -107,7 +107,7 @@ returns-in-Err-Memory-clause-goes_on g c =
       stays = λ told start since made refused doubt runs.
           let r = c.in-Err-Memory.ensures.goes_on.stays told start since made refused doubt (Write c.args.client points) runs.logs c.requires.record
           (c.requires.held, c.requires.writable, subst (λ (p : Points). IsAccepted p points) runs.points c.requires.accepted) in
-          (refused ++ Write c.args.client points ∷ [], r.0, Touched refl (left_by (λ is. no_fault c.in-Err-Memory.field-0 c.in-Err-Memory.field-0-is is) r.1), runs_on g.D.Disk old _ start since made refused doubt runs (refused ++ Write c.args.client points ∷ []) r.0 r.2 refl);
+          (refused ++ (old.logs.number, Write c.args.client points) ∷ [], r.0, Touched refl (left_by (λ is. no_fault c.in-Err-Memory.field-0 c.in-Err-Memory.field-0-is is) r.1), runs_on g.D.Disk old _ start since made refused doubt runs (refused ++ (old.logs.number, Write c.args.client points) ∷ []) r.0 r.2 refl);
     }
 
 pub returns-in-Err-Fault-clause-goes_on : goal.returns-in-Err-Fault-clause-goes_on
@@ -119,5 +119,5 @@ returns-in-Err-Fault-clause-goes_on g c =
       stays = λ told start since made refused doubt runs.
           let r = c.in-Err-Fault.ensures.goes_on.stays told start since made refused doubt (Write c.args.client points) runs.logs c.requires.record
           (c.requires.held, c.requires.writable, subst (λ (p : Points). IsAccepted p points) runs.points c.requires.accepted) in
-          (refused ++ Write c.args.client points ∷ [], r.0, Touched refl (left_by (λ is. refl) r.1), runs_on g.D.Disk old _ start since made refused doubt runs (refused ++ Write c.args.client points ∷ []) r.0 r.2 refl);
+          (refused ++ (old.logs.number, Write c.args.client points) ∷ [], r.0, Touched refl (left_by (λ is. refl) r.1), runs_on g.D.Disk old _ start since made refused doubt runs (refused ++ (old.logs.number, Write c.args.client points) ∷ []) r.0 r.2 refl);
     }

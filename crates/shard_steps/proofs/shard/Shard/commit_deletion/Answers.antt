@@ -82,7 +82,7 @@ returns-in-Err-Memory-clause-goes_on g c =
       ok = record {};
       stays = λ told start since made refused doubt runs.
           let r = c.in-Err-Memory.ensures.goes_on.stays told start since made refused doubt entry runs.logs c.requires.record tt in
-          (refused ++ entry ∷ [], r.0, Touched refl (left_by (λ is. no_fault c.in-Err-Memory.field-0 c.in-Err-Memory.field-0-is is) r.1), runs_on g.D.Disk old _ start since made refused doubt runs (refused ++ entry ∷ []) r.0 r.2 refl);
+          (refused ++ (old.logs.number, entry) ∷ [], r.0, Touched refl (left_by (λ is. no_fault c.in-Err-Memory.field-0 c.in-Err-Memory.field-0-is is) r.1), runs_on g.D.Disk old _ start since made refused doubt runs (refused ++ (old.logs.number, entry) ∷ []) r.0 r.2 refl);
       untouched = λ is. absurd (cc is);
     }
 
@@ -94,6 +94,6 @@ returns-clause-goes_on g c =
       ok = record {};
       stays = λ told start since made refused doubt runs.
           let r = c.in-Err-Fault.ensures.goes_on.stays told start since made refused doubt entry runs.logs c.requires.record tt in
-          (refused ++ entry ∷ [], r.0, Touched refl (left_by (λ is. refl) r.1), runs_on g.D.Disk old _ start since made refused doubt runs (refused ++ entry ∷ []) r.0 r.2 refl);
+          (refused ++ (old.logs.number, entry) ∷ [], r.0, Touched refl (left_by (λ is. refl) r.1), runs_on g.D.Disk old _ start since made refused doubt runs (refused ++ (old.logs.number, entry) ∷ []) r.0 r.2 refl);
       untouched = λ is. absurd (cc is);
     }
