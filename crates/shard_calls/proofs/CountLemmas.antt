@@ -92,7 +92,7 @@ contains_among texts text at = (is_member-Decides bytes_eq-Decides texts text).1
 pub among_contains : (texts : List (List ℕ)) (text : List ℕ) → is_among texts text ≡ true → Contains texts text
 among_contains texts text is = (is_member-Decides bytes_eq-Decides texts text).0 is
 
-and_true : (a b : Bool) → (a && not b) ≡ true → (a ≡ true) × (b ≡ false)
+pub and_true : (a b : Bool) → (a && not b) ≡ true → (a ≡ true) × (b ≡ false)
 and_true true true is = absurd (false≢true is)
 and_true true false is = (refl, refl)
 and_true false b is = absurd (false≢true is)
