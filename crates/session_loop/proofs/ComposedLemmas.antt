@@ -52,8 +52,8 @@ module _ (whole : Whole) where
   -- what the store of the first session tells as tried since, that session's client was refused at its place
   pub tried_first : (client : ℕ) (part : Part) (parts : List Part) (are : AreParts whole client (part ∷ parts)) (attempt : Attempt) → Contains part.new.told.tried attempt
       → Contains part.old.told.tried attempt
-          ⊎ IsTriedIn whole.tells (HasCause whole.tells whole.limits whole.series whole.start) whole.start whole.history client (map (λ part. part.transcript) (part ∷ parts)) (map (λ part. part.dialogue) (part ∷ parts))
-          (all_told client (part ∷ parts) are) attempt
+      ⊎ IsTriedIn whole.tells (HasCause whole.tells whole.limits whole.series whole.start) whole.start whole.history client (map (λ part. part.transcript) (part ∷ parts)) (map (λ part. part.dialogue) (part ∷ parts))
+      (all_told client (part ∷ parts) are) attempt
   tried_first client part parts are attempt at = ⊎_elim
       (λ before. inl before)
       (λ tries. inr (inl (tries_in client part are.0 are.0.is.opening (all_answers part.dialogue) are.0.is.told.places attempt tries)))
