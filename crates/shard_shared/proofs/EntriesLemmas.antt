@@ -5,7 +5,7 @@ use Rattle.history_turn.specs.Owned.{IsAmong, SameChange, weigh}
 use Rattle.history_turn.proofs.OwnedLemmas.{weigh-append}
 use Rattle.point_model.specs.declared.entry.Entry.{Entry}
 use Rattle.store_trait.specs.Calls.View.{without}
-use Rattle.shard_state.specs.History.{Made}
+use Rattle.shard_state.specs.History.{Attempt, Made}
 use Rattle.shard_calls.specs.Attempts.{entry_tried}
 use Rattle.shard_shared.specs.Entries.{AreFew, entries_in, faults_lent, lent_by, made_by, most_found, refusals_in, tried_in, tried_lent, views_lent, without_view}
 use Rattle.shard_shared.specs.declared.engine.Entered.{Entered}
@@ -181,7 +181,7 @@ pub tried-without : (loans : List Lent) → tried_lent (without_view loans) ≡ 
 tried-without [] = refl
 tried-without (View ∷ loans) = refl
 tried-without (Fault ∷ loans) = tried-without loans
-tried-without (Found count ∷ loans) = ap (λ (es : List Entry). entry_tried count.client count.tried ++ es) (tried-without loans)
+tried-without (Found count ∷ loans) = ap (λ (l : List Attempt). entry_tried count.client count.number count.tried ++ l) (tried-without loans)
 
 -- Refusals that were noted.
 
@@ -193,14 +193,14 @@ pub noted_refusals : (old new : List (Snapshot Refusal)) (note : Snapshot Refusa
 noted_refusals old new note refusal put value =
     ap (λ (l : List (Snapshot Refusal)). refusals_in l) put ∙ refusals-last old note ∙ ap (λ (r : Refusal). refusals_in old ++ r ∷ []) value
 
-tried-last : (refusals : List Refusal) (refusal : Refusal) → tried_in (refusals ++ refusal ∷ []) ≡ tried_in refusals ++ entry_tried refusal.client refusal.tried
-tried-last [] refusal = append-nil (entry_tried refusal.client refusal.tried)
+tried-last : (refusals : List Refusal) (refusal : Refusal) → tried_in (refusals ++ refusal ∷ []) ≡ tried_in refusals ++ entry_tried refusal.client refusal.number refusal.tried
+tried-last [] refusal = append-nil (entry_tried refusal.client refusal.number refusal.tried)
 tried-last (first ∷ refusals) refusal =
-    ap (λ (es : List Entry). entry_tried first.client first.tried ++ es) (tried-last refusals refusal)
-    ∙ sym (append_assoc (entry_tried first.client first.tried) (tried_in refusals) (entry_tried refusal.client refusal.tried))
+    ap (λ (l : List Attempt). entry_tried first.client first.number first.tried ++ l) (tried-last refusals refusal)
+    ∙ sym (append_assoc (entry_tried first.client first.number first.tried) (tried_in refusals) (entry_tried refusal.client refusal.number refusal.tried))
 
 pub tried_more : (old new : List (Snapshot Refusal)) (note : Snapshot Refusal) (refusal : Refusal) → new ≡ old ++ note ∷ [] → note.value ≡ refusal
-    → tried_in (refusals_in new) ≡ tried_in (refusals_in old) ++ entry_tried refusal.client refusal.tried
+    → tried_in (refusals_in new) ≡ tried_in (refusals_in old) ++ entry_tried refusal.client refusal.number refusal.tried
 tried_more old new note refusal put value = ap (λ (rs : List Refusal). tried_in rs) (noted_refusals old new note refusal put value) ∙ tried-last (refusals_in old) refusal
 
 pub few_grown : (counts : List Refusal) (keys more new : List (List ℕ)) → AreFew counts keys → new ≡ keys ++ more → AreFew counts new

@@ -15,7 +15,7 @@ use Rattle.point_model.specs.declared.entry.Entry.{Entry}
 use Rattle.store_trait.specs.Calls.Entry.{Accepts, TakesEntry}
 use Rattle.store_trait.specs.Calls.View.{Begins}
 use Rattle.store_trait.specs.Calls.Write.{IsOpen, FitsSeries, PassesSeries, PassesCache, WriteHasCause}
-use Rattle.store_trait.specs.Told.{Keeps, Refuses, Told, TriesAtMost, last_number}
+use Rattle.store_trait.specs.Told.{Attempt, Keeps, Refuses, Told, TriesAtMost, last_number}
 use Rattle.store_trait.specs.Calls.Delete.{DeleteHasCause}
 use Rattle.store_trait.specs.declared.fault.DeleteFault.{DeleteFault}
 use Rattle.store_trait.specs.declared.fault.DeleteFault.TheVariants as delete_fault
@@ -30,7 +30,7 @@ use Rattle.shard_steps.specs.declared.shard.Shard.{Shard}
 use Rattle.shard_calls.specs.Told.{limits_of}
 use Rattle.shard_calls.proofs.CountLemmas.{all_few, all_texts, are_known, are_new, few_left, known_few, known_of, new_of, unheld_few}
 use Rattle.shard_calls.proofs.SeriesLemmas.{by_case}
-use Rattle.shard_calls.proofs.StoreLemmas.{MakesEntry, within_held}
+use Rattle.shard_calls.proofs.StoreLemmas.{MakesEntry, attempt_at, within_held}
 use Rattle.shard_shared.specs.Entries.{entries_in, most_found, tried_lent, views_lent}
 use Rattle.shard_shared.specs.Reaching.{ComesTo, ComesFrom}
 use Rattle.shard_shared.specs.Told.{is_steady_at, limits_at, number_at, state_at}
@@ -70,24 +70,29 @@ module _ {D : Type 0} (client : ℕ) (start : Option (Shard D)) where
   }
 
   -- What a refusal leaves.
-  pub refuses : (asked : Entry) (may : Type 0) (seen entries : List Entered) (own : List ℕ) (loans left : List Lent) → views_lent left ≡ views_lent loans → TriesAtMost asked may (tried_lent loans) (tried_lent left)
+  pub refuses : (number : ℕ) (asked : Entry) (may : Type 0) (seen entries : List Entered) (own : List ℕ) (loans left : List Lent) → views_lent left ≡ views_lent loans
+      → number ≡ (state_after (state_at start) (entries_in entries)).number → TriesAtMost (attempt_at number asked) may (tried_lent loans) (tried_lent left)
       → Refuses asked may (told_at client start seen own loans) (told_at client start entries own left)
-  refuses asked may seen entries own loans left same tries = record { own = refl; out = same; tried = tries }
+  refuses number asked may seen entries own loans left same is tries = record {
+    own = refl;
+    out = same;
+    tried = subst (λ (n : ℕ). TriesAtMost (attempt_at n asked) may (tried_lent loans) (tried_lent left)) is tries;
+  }
 
 module _ {D R W : Type 0} (g : Ghosts D R W) where
-  reached : (start : Option (Shard D)) (faults : ℕ) (entered : List Entered) (shard : Shard D) → ComesFrom g start faults entered shard
+  pub reached : (start : Option (Shard D)) (faults : ℕ) (tried : List Attempt) (entered : List Entered) (shard : Shard D) → ComesFrom g start faults tried entered shard
       → state_of shard ≡ state_after (state_at start) (entries_in entered)
-  reached (Some s) faults entered shard was = was.state
-  reached None faults entered shard was = absurd was
+  reached (Some s) faults tried entered shard was = was.state
+  reached None faults tried entered shard was = absurd was
 
   -- An entry more.
-  pub accepts : (start : Option (Shard D)) (faults client : ℕ) (made : Entry) (number : ℕ) (seen entries : List Entered) (moment : ℕ) (own : List ℕ) (loans : List Lent) (old new : Shard D)
-      → StartsWith entries seen → ComesFrom g start faults entries old → MakesEntry made number old new
+  pub accepts : (start : Option (Shard D)) (faults client : ℕ) (tried : List Attempt) (made : Entry) (number : ℕ) (seen entries : List Entered) (moment : ℕ) (own : List ℕ) (loans : List Lent) (old new : Shard D)
+      → StartsWith entries seen → ComesFrom g start faults tried entries old → MakesEntry made number old new
       → Accepts made number (told_at client start seen own loans)
       (told_at client start (entries ++ record { entry = made; moment = moment } ∷ []) ((number_at start + length entries + 1) ∷ own) loans)
-  accepts start faults client made number seen entries moment own loans old new more was makes =
+  accepts start faults client tried made number seen entries moment own loans old new more was makes =
       let last : Entered = record { entry = made; moment = moment } in
-      let before = ap (λ (s : State). s.number) (reached start faults entries old was) in
+      let before = ap (λ (s : State). s.number) (reached start faults tried entries old was) in
       let step = ap (λ (s : State). s.number) makes.state in
       let given = makes.given in
       let many = as_many entries in
@@ -97,7 +102,7 @@ module _ {D R W : Type 0} (g : Ghosts D R W) where
         before = entries_in entries;
         later = record { since = entries_in more.0; begins = ap (λ (es : List Entered). entries_in es) more.1 ∙ entries_in-append seen more.0 };
         entry = entries_in-append entries (last ∷ []);
-        accepted = λ tells. subst (λ (s : State). TakesEntry s.points made) (reached start faults entries old was) makes.taken;
+        accepted = λ tells. subst (λ (s : State). TakesEntry s.points made) (reached start faults tried entries old was) makes.taken;
         given = omega (arith, before, step, given, joined, sum);
         limit = makes.limit;
         own = reverse-append ((number_at start + length entries + 1) ∷ []) own ∙ ap (λ (n : ℕ). reverse own ++ n ∷ []) (let own_is : number_at start + length entries + 1 ≡ number = omega (arith, before, step, given, many) in own_is);
@@ -106,14 +111,14 @@ module _ {D R W : Type 0} (g : Ghosts D R W) where
       }
 
   -- Views.
-  pub begins : (start : Option (Shard D)) (faults client : ℕ) (need : Need) (shown : Shown) (seen entries : List Entered) (own : List ℕ) (loans : List Lent) (shard : Shard D)
-      → ComesFrom g start faults entries shard → Lends need shown shard
+  pub begins : (start : Option (Shard D)) (faults client : ℕ) (tried : List Attempt) (need : Need) (shown : Shown) (seen entries : List Entered) (own : List ℕ) (loans : List Lent) (shard : Shard D)
+      → ComesFrom g start faults tried entries shard → Lends need shown shard
       → Begins need shown 0 false (told_at client start seen own loans) (told_at client start entries own (View ∷ loans))
-  begins start faults client need shown seen entries own loans shard was lends = record {
-    number = lends.number ∙ ap (λ (s : State). s.number) (reached start faults entries shard was);
-    gives = λ tells. subst (λ (s : State). Gives s.points need shown) (reached start faults entries shard was) lends.gives;
-    sound = λ tells. subst (λ (s : State). IsSound s.points) (reached start faults entries shard was) lends.sound;
-    timed = λ tells. subst (λ (s : State). All (λ point. IsMoment point.0.time) s.points) (reached start faults entries shard was) lends.timed;
+  begins start faults client tried need shown seen entries own loans shard was lends = record {
+    number = lends.number ∙ ap (λ (s : State). s.number) (reached start faults tried entries shard was);
+    gives = λ tells. subst (λ (s : State). Gives s.points need shown) (reached start faults tried entries shard was) lends.gives;
+    sound = λ tells. subst (λ (s : State). IsSound s.points) (reached start faults tried entries shard was) lends.sound;
+    timed = λ tells. subst (λ (s : State). All (λ point. IsMoment point.0.time) s.points) (reached start faults tried entries shard was) lends.timed;
     own = refl;
     tried = refl;
     out = refl;
@@ -122,23 +127,23 @@ module _ {D R W : Type 0} (g : Ghosts D R W) where
   }
 
   -- A fault.
-  unsteady : (start : Option (Shard D)) (faults : ℕ) (entered : List Entered) (shard : Shard D) → ComesFrom g start faults entered shard
+  unsteady : (start : Option (Shard D)) (faults : ℕ) (tried : List Attempt) (entered : List Entered) (shard : Shard D) → ComesFrom g start faults tried entered shard
       → (g.health shard.logs.disk).is_steady ≡ false → is_steady_at g start ≡ false
-  unsteady (Some s) faults entered shard was fails =
+  unsteady (Some s) faults tried entered shard was fails =
       by_case (g.health s.logs.disk).is_steady
       (λ is. absurd (false≢true (sym fails ∙ ap (λ (h : Health). h.is_steady) (was.health.ages.steady is) ∙ is)))
       (λ isnt. isnt)
-  unsteady None faults entered shard was fails = absurd was
+  unsteady None faults tried entered shard was fails = absurd was
 
-  pub failed : (start : Option (Shard D)) (faults told : ℕ) (entered : List Entered) (shard : Shard D) (now : Health) → ComesFrom g start faults entered shard
+  pub failed : (start : Option (Shard D)) (faults told : ℕ) (tried : List Attempt) (entered : List Entered) (shard : Shard D) (now : Health) → ComesFrom g start faults tried entered shard
       → Failed (g.health shard.logs.disk) now → Failed (record { faults = told; is_steady = is_steady_at g start }) (record { faults = told + 1; is_steady = is_steady_at g start })
-  failed start faults told entered shard now was fails = record { rose = omega arith; unsteady = unsteady start faults entered shard was fails.unsteady }
+  failed start faults told tried entered shard now was fails = record { rose = omega arith; unsteady = unsteady start faults tried entered shard was fails.unsteady }
 
   -- Why a batch was refused.
-  module _ (start : Shard D) (faults client : ℕ) (points : List Point) (entered : List Entered) (own : List ℕ) (loans : List Lent) (shard : Shard D)
-      (was : ComesTo g start faults entered shard) (few : length shard.logs.series.keys ≤ most_found loans) where
+  module _ (start : Shard D) (faults client : ℕ) (tried : List Attempt) (points : List Point) (entered : List Entered) (own : List ℕ) (loans : List Lent) (shard : Shard D)
+      (was : ComesTo g start faults tried entered shard) (few : length shard.logs.series.keys ≤ most_found loans) where
     within : (text : List ℕ) → is_among (all_texts (limits_of (state_of start) start.logs.series.keys start) (entries_in entered)) text ≡ true → is_among shard.logs.series.keys text ≡ true
-    within = within_held start.logs.series.keys shard.logs.series.keys (entries_in entered) was.series
+    within = within_held start.logs.series.keys shard.logs.series.keys (entries_in entered) tried was.series
 
     is_open : steps.IsOpen points shard → IsOpen points (told_at client (Some start) entered own loans)
     is_open o = record {
@@ -199,20 +204,20 @@ module _ {D R W : Type 0} (g : Ghosts D R W) where
     cause_of before after old new fault.Fault fails is =
         (fails refl is.0, is_open is.1, fits is.2, (let same = ap (λ settings. settings.cache_points) was.settings in let room = is.3 in omega (arith, same, room)))
 
-  pub cause : (start : Option (Shard D)) (faults client : ℕ) (points : List Point) (entered : List Entered) (own : List ℕ) (loans : List Lent) (shard : Shard D)
-      → ComesFrom g start faults entered shard → length shard.logs.series.keys ≤ most_found loans
+  pub cause : (start : Option (Shard D)) (faults client : ℕ) (tried : List Attempt) (points : List Point) (entered : List Entered) (own : List ℕ) (loans : List Lent) (shard : Shard D)
+      → ComesFrom g start faults tried entered shard → length shard.logs.series.keys ≤ most_found loans
       → (before after old new : Health) (why : WriteFault) → (why ≡ fault.Fault → Failed before after → Failed old new) → steps.HasCause points shard before after why
       → WriteHasCause points (told_at client start entered own loans) old new why
-  cause (Some s) faults client points entered own loans shard was few before after old new why fails is =
-      cause_of s faults client points entered own loans shard was few before after old new why fails is
-  cause None faults client points entered own loans shard was few before after old new why fails is = absurd was
+  cause (Some s) faults client tried points entered own loans shard was few before after old new why fails is =
+      cause_of s faults client tried points entered own loans shard was few before after old new why fails is
+  cause None faults client tried points entered own loans shard was few before after old new why fails is = absurd was
 
   -- Why a deletion was refused.
-  pub delete_cause : (start : Option (Shard D)) (faults client : ℕ) (entered : List Entered) (own : List ℕ) (loans : List Lent) (shard : Shard D) → ComesFrom g start faults entered shard
+  pub delete_cause : (start : Option (Shard D)) (faults client : ℕ) (tried : List Attempt) (entered : List Entered) (own : List ℕ) (loans : List Lent) (shard : Shard D) → ComesFrom g start faults tried entered shard
       → (before after old new : Health) (why : DeleteFault) → (why ≡ delete_fault.Fault → Failed before after → Failed old new) → deleting.HasCause shard before after why
       → DeleteHasCause (told_at client start entered own loans) old new why
-  delete_cause start faults client entered own loans shard was before after old new delete_fault.HistoryFull fails is =
-      sym (ap (λ (s : State). s.number) (reached start faults entered shard was)) ∙ is
-  delete_cause start faults client entered own loans shard was before after old new delete_fault.Memory fails is = tt
-  delete_cause start faults client entered own loans shard was before after old new delete_fault.Fault fails is =
-      (fails refl is.0, subst (λ (s : State). s.number < last_number) (reached start faults entered shard was) is.1)
+  delete_cause start faults client tried entered own loans shard was before after old new delete_fault.HistoryFull fails is =
+      sym (ap (λ (s : State). s.number) (reached start faults tried entered shard was)) ∙ is
+  delete_cause start faults client tried entered own loans shard was before after old new delete_fault.Memory fails is = tt
+  delete_cause start faults client tried entered own loans shard was before after old new delete_fault.Fault fails is =
+      (fails refl is.0, subst (λ (s : State). s.number < last_number) (reached start faults tried entered shard was) is.1)

@@ -1,5 +1,5 @@
 -- What a pass knows once it has given the turn back.
-use Rattle.std.proofs.Common.{◌≡◌, ◌∙◌, ℕ, List, ◌++◌, ◌∷◌, [], length, append-nil, ap, subst, sym, arith, reverse, Option, Some, refl, Bool, true, false, Result, Ok, Err}
+use Rattle.std.proofs.Common.{◌≡◌, ◌∙◌, ℕ, List, ◌++◌, ◌∷◌, [], length, append-nil, ap, subst, sym, arith, reverse, Option, Some, refl, true, false, Result, Ok, Err}
 use Rattle.std.specs.Prelude.{IsErrOf}
 use Rattle.std.specs.declared.snapshot.Snapshot.{Snapshot}
 use Rattle.std.proofs.lemmas.Bool.{false≢true}
@@ -12,7 +12,7 @@ use Rattle.history_turn.specs.Passes.{Known, viewing}
 use Rattle.history_turn.specs.Views.{adding, holding, resting}
 use Rattle.history_turn.proofs.HistoriesLemmas.{starts_longer, starts_trans}
 use Rattle.store_trait.specs.Calls.View.{Begins, TakesBack}
-use Rattle.store_trait.specs.Told.{Keeps}
+use Rattle.store_trait.specs.Told.{Attempt, Keeps}
 use Rattle.store_trait.specs.declared.fault.DeleteFault.{DeleteFault}
 use Rattle.store_trait.specs.declared.fault.DeleteFault.TheVariants as delete_fault
 use Rattle.store_trait.specs.declared.fault.WriteFault.{WriteFault}
@@ -45,8 +45,8 @@ gave {D} old held new entries found loans_found facts more faults loans taken gi
 
 -- the value that is lent is the one that was taken
 pub lent_reaches : {D R W : Type 0} (g : Ghosts D R W) (start : Option (Shard D)) (entries : List Entered) (taken lent : Engine D) → lent ≡ taken
-    → Stands g start entries taken → ComesFrom g start lent.faults entries lent.shard
-lent_reaches {D} g start entries taken lent is was = subst (λ (e : Engine D). ComesFrom g start e.faults entries e.shard) (sym is) was.0
+    → Stands g start entries taken → ComesFrom g start lent.faults (tried_in (refusals_in lent.found.items)) entries lent.shard
+lent_reaches {D} g start entries taken lent is was = subst (λ (e : Engine D). ComesFrom g start e.faults (tried_in (refusals_in e.found.items)) entries e.shard) (sym is) was.0
 
 pub lent_few : {D R W : Type 0} (g : Ghosts D R W) (start : Option (Shard D)) (entries : List Entered) (taken lent : Engine D) → lent ≡ taken
     → Stands g start entries taken → AreFew (refusals_in lent.found.items) lent.shard.logs.series.keys
@@ -54,10 +54,12 @@ lent_few {D} g start entries taken lent is was = subst (λ (e : Engine D). AreFe
 
 -- the same of one that has room for a refusal
 pub roomy_reaches : {D R W : Type 0} (g : Ghosts D R W) (start : Option (Shard D)) (entries : List Entered) (taken lent roomy : Engine D) → lent ≡ taken
-    → roomy.shard ≡ lent.shard → roomy.faults ≡ lent.faults → Stands g start entries taken → ComesFrom g start roomy.faults entries roomy.shard
-roomy_reaches {D} g start entries taken lent roomy is shard faults was =
-    subst (λ (s : Shard D). ComesFrom g start roomy.faults entries s) (sym shard)
-    (subst (λ (n : ℕ). ComesFrom g start n entries lent.shard) (sym faults) (lent_reaches g start entries taken lent is was))
+    → roomy.shard ≡ lent.shard → roomy.faults ≡ lent.faults → roomy.found.items ≡ lent.found.items → Stands g start entries taken
+    → ComesFrom g start roomy.faults (tried_in (refusals_in roomy.found.items)) entries roomy.shard
+roomy_reaches {D} g start entries taken lent roomy is shard faults found was =
+    subst (λ (s : Shard D). ComesFrom g start roomy.faults (tried_in (refusals_in roomy.found.items)) entries s) (sym shard)
+    (subst (λ (n : ℕ). ComesFrom g start n (tried_in (refusals_in roomy.found.items)) entries lent.shard) (sym faults)
+    (subst (λ (l : List (Snapshot Refusal)). ComesFrom g start lent.faults (tried_in (refusals_in l)) entries lent.shard) (sym found) (lent_reaches g start entries taken lent is was)))
 
 pub roomy_few : {D R W : Type 0} (g : Ghosts D R W) (start : Option (Shard D)) (entries : List Entered) (taken lent roomy : Engine D) → lent ≡ taken
     → roomy.shard ≡ lent.shard → roomy.found.items ≡ lent.found.items → Stands g start entries taken → AreFew (refusals_in roomy.found.items) roomy.shard.logs.series.keys
@@ -83,9 +85,9 @@ noted_few old new note refusal keys more grown put value is counts few =
     subst (λ (l : List Refusal). AreFew l grown) (sym (noted_refusals old new note refusal put value)) (few_more (refusals_in old) refusal grown (few_grown (refusals_in old) keys more grown few is) (omega (arith, counts)))
 
 -- no entry more
-pub none_more : {D R W : Type 0} (g : Ghosts D R W) (start : Option (Shard D)) (faults : ℕ) (entries : List Entered) (shard : Shard D)
-    → ComesFrom g start faults entries shard → ComesFrom g start faults (entries ++ []) shard
-none_more g start faults entries shard was = subst (λ (es : List Entered). ComesFrom g start faults es shard) (sym (append-nil entries)) was
+pub none_more : {D R W : Type 0} (g : Ghosts D R W) (start : Option (Shard D)) (faults : ℕ) (tried : List Attempt) (entries : List Entered) (shard : Shard D)
+    → ComesFrom g start faults tried entries shard → ComesFrom g start faults tried (entries ++ []) shard
+none_more g start faults tried entries shard was = subst (λ (es : List Entered). ComesFrom g start faults tried es shard) (sym (append-nil entries)) was
 
 -- a view that met no fault
 pub takes_back : (old new : Health) → new ≡ old → TakesBack (record { faults = 0; is_steady = true }) old new

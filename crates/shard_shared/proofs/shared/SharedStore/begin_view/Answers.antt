@@ -20,10 +20,10 @@ give-requires-clause-stands g c =
     let old = c.value-engine.result.now in
     let start = c.loop.self.pass.view.start in
     rw (ap (λ (p : Pass g.row.D.Denot). p.view.start) taken.now, ap (λ (p : Pass g.row.D.Denot). p.view.seen) taken.now) (
-      none_more g.D.Disk start old.faults taken.entries c.begin_view.new.shard
-          (from_any g.D.Disk start old.faults old.faults taken.entries taken.entries old.shard c.begin_view.new.shard
-          (λ s was. subst (λ (shard : Shard g.row.D.Denot). ComesTo g.D.Disk s old.faults taken.entries shard) (sym c.in-Ok.ensures.out)
-          (reaches_views g.D.Disk s old.faults (old.shard.views + 1) taken.entries old.shard (let room = c.in-Ok.ensures.room in omega (arith, room)) was))
+      none_more g.D.Disk start old.faults (tried_in (refusals_in old.found.items)) taken.entries c.begin_view.new.shard
+          (from_any g.D.Disk start old.faults old.faults (tried_in (refusals_in old.found.items)) (tried_in (refusals_in old.found.items)) taken.entries taken.entries old.shard c.begin_view.new.shard
+          (λ s was. subst (λ (shard : Shard g.row.D.Denot). ComesTo g.D.Disk s old.faults (tried_in (refusals_in old.found.items)) taken.entries shard) (sym c.in-Ok.ensures.out)
+          (reaches_views g.D.Disk s old.faults (old.shard.views + 1) (tried_in (refusals_in old.found.items)) taken.entries old.shard (let room = c.in-Ok.ensures.room in omega (arith, room)) was))
           (lent_reaches g.D.Disk start taken.entries c.take-held.result old c.value-engine.ensures.value taken.stands_for)),
       subst (λ (shard : Shard g.row.D.Denot). AreFew (refusals_in old.found.items) shard.logs.series.keys) (sym c.in-Ok.ensures.out)
           (lent_few g.D.Disk start taken.entries c.take-held.result old c.value-engine.ensures.value taken.stands_for),
@@ -47,8 +47,8 @@ returns-in-Ok-clause-ok g c =
     begins_waited c.args.self.now.pass.view was c.give.new.pass.view c.args.self.now.client c.loop.self.client c.args.need.now c.in-Ok.view c.loop.invariant.1
     (subst (λ (v : EngineView g.row.D.Denot). Begins c.args.need.now c.in-Ok.view 0 false (told_over c.loop.self.client was) (told_over c.loop.self.client v))
     (sym (gave c.loop.self.pass c.take-held.new.pass c.give.new.pass taken.entries _ _ _ [] _ (λ (l : List Lent). View ∷ l) taken.now c.give.ensures))
-    (begins g.D.Disk was.start old.faults c.loop.self.client c.args.need.now c.in-Ok.view was.seen (taken.entries ++ []) was.own was.loans old.shard
-    (none_more g.D.Disk was.start old.faults taken.entries old.shard
+    (begins g.D.Disk was.start old.faults c.loop.self.client (tried_in (refusals_in old.found.items)) c.args.need.now c.in-Ok.view was.seen (taken.entries ++ []) was.own was.loans old.shard
+    (none_more g.D.Disk was.start old.faults (tried_in (refusals_in old.found.items)) taken.entries old.shard
     (lent_reaches g.D.Disk was.start taken.entries c.take-held.result old c.value-engine.ensures.value taken.stands_for)) c.in-Ok.ensures.ok))
 
 pub returns-in-Ok-clause-kept : goal.returns-in-Ok-clause-kept

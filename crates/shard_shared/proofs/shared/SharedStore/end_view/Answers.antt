@@ -26,10 +26,10 @@ give-requires-clause-stands g c =
     let old = c.value-engine.result.now in
     let start = c.args.self.now.pass.view.start in
     rw (ap (λ (p : Pass g.row.D.Denot). p.view.start) taken.now, ap (λ (p : Pass g.row.D.Denot). p.view.seen) taken.now) (
-      none_more g.D.Disk start old.faults taken.entries c.end_view.new.shard
-          (from_any g.D.Disk start old.faults old.faults taken.entries taken.entries old.shard c.end_view.new.shard
-          (λ s was. subst (λ (shard : Shard g.row.D.Denot). ComesTo g.D.Disk s old.faults taken.entries shard) (sym c.end_view.ensures.same)
-          (reaches_views g.D.Disk s old.faults c.end_view.new.shard.views taken.entries old.shard (let one = c.end_view.ensures.views in let few = was.ready.views in omega (arith, one, few)) was))
+      none_more g.D.Disk start old.faults (tried_in (refusals_in old.found.items)) taken.entries c.end_view.new.shard
+          (from_any g.D.Disk start old.faults old.faults (tried_in (refusals_in old.found.items)) (tried_in (refusals_in old.found.items)) taken.entries taken.entries old.shard c.end_view.new.shard
+          (λ s was. subst (λ (shard : Shard g.row.D.Denot). ComesTo g.D.Disk s old.faults (tried_in (refusals_in old.found.items)) taken.entries shard) (sym c.end_view.ensures.same)
+          (reaches_views g.D.Disk s old.faults c.end_view.new.shard.views (tried_in (refusals_in old.found.items)) taken.entries old.shard (let one = c.end_view.ensures.views in let few = was.ready.views in omega (arith, one, few)) was))
           (lent_reaches g.D.Disk start taken.entries c.take-held.result old c.value-engine.ensures.value taken.stands_for)),
       subst (λ (shard : Shard g.row.D.Denot). AreFew (refusals_in old.found.items) shard.logs.series.keys) (sym c.end_view.ensures.same)
           (lent_few g.D.Disk start taken.entries c.take-held.result old c.value-engine.ensures.value taken.stands_for),
