@@ -11,3 +11,5 @@ mod files;
 mod rows;
 #[cfg(test)]
 mod runs;
+#[cfg(test)]
+mod together;
