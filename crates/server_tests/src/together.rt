@@ -5,11 +5,13 @@ use std::alloc::{AllocError, Global};
 use std::test::Fail;
 
 // Ten values of one cell, and how far the entries have come.
-const FIRST: &str = "INSERT cpu v=1i 1\nINSERT cpu v=2i 1\nINSERT cpu v=3i 1\nINSERT cpu v=4i 1\nINSERT cpu v=5i 1\n\
+const FIRST: &str =
+    "INSERT cpu v=1i 1\nINSERT cpu v=2i 1\nINSERT cpu v=3i 1\nINSERT cpu v=4i 1\nINSERT cpu v=5i 1\n\
     INSERT cpu v=6i 1\nINSERT cpu v=7i 1\nINSERT cpu v=8i 1\nINSERT cpu v=9i 1\nINSERT cpu v=10i 1\nAFTER 20\n";
 
 // Ten others of the same cell.
-const SECOND: &str = "INSERT cpu v=11i 1\nINSERT cpu v=12i 1\nINSERT cpu v=13i 1\nINSERT cpu v=14i 1\nINSERT cpu v=15i 1\n\
+const SECOND: &str =
+    "INSERT cpu v=11i 1\nINSERT cpu v=12i 1\nINSERT cpu v=13i 1\nINSERT cpu v=14i 1\nINSERT cpu v=15i 1\n\
     INSERT cpu v=16i 1\nINSERT cpu v=17i 1\nINSERT cpu v=18i 1\nINSERT cpu v=19i 1\nINSERT cpu v=20i 1\nAFTER 20\n";
 
 /// What two clients were told behind `ok 1` to `ok 20`, each of which one of them was told, in this order.
@@ -56,10 +58,18 @@ fn two_clients_have_one_history(rt: HostRuntime) -> Result<(), Fail> {
     let first = client(alloc, "a", "b", FIRST)?;
     let second = client(alloc, "c", "d", SECOND)?;
     let clients = vec![in alloc; first, second]?;
-    let left = run(&rt, alloc, &["run", "db", "a", "b", "c", "d"], &disk, clients)?;
+    let left = run(
+        &rt,
+        alloc,
+        &["run", "db", "a", "b", "c", "d"],
+        &disk,
+        clients,
+    )?;
     assert_eq!(rt; (left.status, left.printed.as_str()), (0, ""));
     let behind = behind_writes(alloc, left.told(0), left.told(1))?;
-    assert!(rt; behind.is_some_and(|(first, second)| tells_how_far(first) && tells_how_far(second)));
+    assert!(rt;
+        behind.is_some_and(|(first, second)| tells_how_far(first) && tells_how_far(second))
+    );
     let value = last_value(&left);
     let Some(disk) = left.into_image() else {
         assert!(rt; false, "the directory was closed");
