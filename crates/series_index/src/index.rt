@@ -33,10 +33,10 @@ impl Model for SeriesIndex {
 }
 
 impl SeriesIndex {
-    ghost use Rattle.std.specs.Prelude.{◌≡◌, ◌≤◌, ◌++◌, [], List, drop, length, IfOk, OnOk, OnErr};
+    ghost use Rattle.std.specs.Prelude.{◌≡◌, ◌≤◌, ◌↔◌, ◌++◌, [], List, Contains, drop, length, IsTrue, IfOk, OnOk, OnErr};
     ghost use Rattle.index_lists.specs.Listing.{AreIdsOf};
     ghost use Rattle.index_lists.specs.Names.{AreNamesOf};
-    ghost use Rattle.index_lists.specs.Pairs.{Agrees, MayChange, Pair, after_all, is_in};
+    ghost use Rattle.index_lists.specs.Pairs.{Agrees, MayChange, Pair, after_all};
     ghost use Rattle.index_lists.specs.Terms.{is_of};
     ghost use Rattle.series_index.specs.Index.{HasContent, is_match};
     ghost use Rattle.series_index.specs.Staging.{changing};
@@ -102,7 +102,8 @@ impl SeriesIndex {
 
     /// How many pairs there are.
     pub fn pairs(&self) -> usize
-        ensures { result ≡ self.now.lists.pairs }
+        ensures lists { result ≡ self.now.lists.pairs }
+        ensures content { (pairs : List Pair) → HasContent pairs self.now → result ≡ length pairs }
     {
         self.lists.pairs()
     }
@@ -125,7 +126,7 @@ impl SeriesIndex {
     /// Whether a series has points in a field. The id is that of this series alone.
     pub fn has(&self, id: u32, series: &SeriesKey, field: &Name) -> Result<bool, AllocError>
         ensures { IfOk result (λ there. (pairs : List Pair) → HasContent pairs self.now → Agrees pairs (record { id = id; series = series.now; field = field.now })
-            → there ≡ is_in pairs (record { id = id; series = series.now; field = field.now })) }
+            → IsTrue there ↔ Contains pairs (record { id = id; series = series.now; field = field.now })) }
     {
         let measurement = measurement_of(self.alloc, series)?;
         let term = Term::Field(measurement, field.carry()?);
