@@ -5,7 +5,7 @@ use Rattle.std.proofs.lemmas.Bool.{false≢true}
 use Rattle.std.proofs.lemmas.List.{length-append}
 use Rattle.index_lists.specs.declared.change.IndexChange.{IndexChange}
 use Rattle.index_lists.specs.Listing.{Holds, Listing}
-use Rattle.index_lists.specs.Pairs.{Agrees, MayChange, Pair, after, after_all, is_in, is_same, pair_of, with_pair, without_pair}
+use Rattle.index_lists.specs.Pairs.{MayChange, Pair, Suits, after, after_all, is_in, is_same, pair_of, with_pair, without_pair}
 use Rattle.index_lists.specs.Ready.{AreReady, IsReady, Prepared, uses}
 use Rattle.index_lists.proofs.PairLemmas.{nat_same, not_false, not_true, same_nat}
 use Rattle.series_index.specs.Index.{changes_of}
@@ -107,8 +107,8 @@ changing_then change changes pairs = by (is_change change pairs)
     by false = refl
 
 pub left_behind : (change : IndexChange) (changes : List IndexChange) (old new : Listing) (was is : List IndexChange) (wanted : List Pair) (logged : List IndexChange) → Left (change ∷ changes) old was wanted logged
-    → ((mid : List Pair) → Holds mid old → Agrees mid (pair_of change) → Holds (after change mid) new)
-    → ((mid : List Pair) → Holds mid old → Agrees mid (pair_of change) → is ≡ was ++ changing (change ∷ []) mid) → Left changes new is wanted logged
+    → ((mid : List Pair) → Holds mid old → Suits mid change → Holds (after change mid) new)
+    → ((mid : List Pair) → Holds mid old → Suits mid change → is ≡ was ++ changing (change ∷ []) mid) → Left changes new is wanted logged
 left_behind change changes old new was is wanted logged left made put = record {
   mid = after change left.mid;
   holds = made left.mid left.holds left.may.0;

@@ -2,7 +2,7 @@
 ghost use Rattle.std.specs.Prelude.{◌≡◌, ◌+◌, ◌<◌, ◌≤◌, ◌∷◌, ◌++◌, [], List, drop, length, vec_len, vec_capacity, OnOk, OnErr};
 ghost use Rattle.index_lists.specs.declared.change.IndexChange.{IndexChange};
 ghost use Rattle.index_lists.specs.Listing.{Holds};
-ghost use Rattle.index_lists.specs.Pairs.{Agrees, MayChange, Pair, after, after_all, pair_of};
+ghost use Rattle.index_lists.specs.Pairs.{MayChange, Pair, Suits, after, after_all};
 ghost use Rattle.index_lists.specs.Ready.{AreReady, Prepared};
 ghost use Rattle.series_index.specs.Index.{changes_of};
 ghost use Rattle.series_index.specs.Staging.{Stages, Unstages, changing};
@@ -77,11 +77,11 @@ pub fn commit_all(lists: &mut Lists, staged: Vec<Staged>, pending: &mut Vec<Inde
 // Makes the first of the changes that are ready. Whether it changes the content is told by how many pairs there are behind it.
 fn commit_one(lists: &mut Lists, one: Staged, pending: &mut Vec<IndexChange>)
     requires ready { (prepared : List Prepared) × AreReady lists.old (one ∷ prepared) }
-    requires content { (pairs : List Pair) × Holds pairs lists.old × Agrees pairs (pair_of one.change) }
+    requires content { (pairs : List Pair) × Holds pairs lists.old × Suits pairs one.change }
     requires room { vec_len pending.old < vec_capacity pending.old }
     ensures ready { (prepared : List Prepared) → AreReady lists.old (one ∷ prepared) → AreReady lists.new prepared }
-    ensures content { (pairs : List Pair) → Holds pairs lists.old → Agrees pairs (pair_of one.change) → Holds (after one.change pairs) lists.new }
-    ensures pending { (pairs : List Pair) → Holds pairs lists.old → Agrees pairs (pair_of one.change) → pending.new.items ≡ pending.old.items ++ changing (one.change ∷ []) pairs }
+    ensures content { (pairs : List Pair) → Holds pairs lists.old → Suits pairs one.change → Holds (after one.change pairs) lists.new }
+    ensures pending { (pairs : List Pair) → Holds pairs lists.old → Suits pairs one.change → pending.new.items ≡ pending.old.items ++ changing (one.change ∷ []) pairs }
     ensures few { length pending.new.items ≤ length pending.old.items + 1 }
     ensures capacity { vec_capacity pending.old ≤ vec_capacity pending.new }
 {
