@@ -12,14 +12,14 @@ use Rattle.index_lists.specs.declared.term.Term.{Term}
 use Rattle.index_lists.specs.declared.term.Term.TheVariants.{Field}
 use Rattle.index_lists.specs.Listing.{AreIdsOf, Holds, IsKnown, Listed, Listing, Puts, Takes, is_listed}
 use Rattle.index_lists.specs.Making.{Adds, IsThere, Removes, first_of, others_of}
-use Rattle.index_lists.specs.Pairs.{Agrees, Pair, after, is_in, is_same, pair_of, with_pair, without_pair}
+use Rattle.index_lists.specs.Pairs.{Agrees, IsAlone, Pair, after, is_in, is_same, pair_of, with_pair, without_pair}
 use Rattle.index_lists.specs.Ready.{IsReady, Prepared}
 use Rattle.index_lists.specs.Steps.{Times}
 use Rattle.index_lists.specs.Terms.{is_field, is_of, measurement_of, series_terms, terms_of}
 use Rattle.index_lists.proofs.PairLemmas.{In, added, all_filter, all_from, all_in, any_in, both_ways, fewer, filter_in, in_any, in_filter, nat_same, not_false, picks, removed_field, removed_last, removed_other, removed_some, same_nat, same_parts, same_truth, some_counted}
 use Rattle.index_lists.proofs.StepLemmas.{bit, count_cons}
 use Rattle.index_lists.proofs.TermLemmas.{Apart, counted_at, in_of, not_counted, of_in, series_plain, wanted_at}
-use Rattle.index_lists.proofs.HoldLemmas.{FirstPlace, agree_less, agree_more, and_false, and_true, counts_less, counts_more, first_place, give_ids, length_less, once_more, one_less, put_sorted, put_times, take_sorted, take_times, there_is}
+use Rattle.index_lists.proofs.HoldLemmas.{FirstPlace, agree_less, agree_more, alone_less, alone_more, and_false, and_true, counts_less, counts_more, first_place, give_ids, length_less, once_more, one_less, put_sorted, put_times, take_sorted, take_times, there_is}
 
 some_put : (id n : ℕ) (old new : Listed) → 0 < n → Times (Puts id) n old new → (other : ℕ) → is_listed new.ids other ≡ (nat_eq other id || is_listed old.ids other)
 some_put id zero old new some t other = absurd (omega (arith, some))
@@ -90,8 +90,8 @@ module _ (pairs : List Pair) (old new : Listing) (prepared : Prepared) (holds : 
             ap (λ (l : Listed). is_listed l.ids id) (no_steps (Puts pair.id) (count_by (nat_eq place) prepared.places) was listed none t) ∙ has id
             ∙ ap (λ (b : Bool). b || list_any (picks id term) pairs) (sym (ap (λ (b : Bool). nat_eq id pair.id && b) not_of ∙ and_false (nat_eq id pair.id)))
 
-    pub add_holds : Holds (with_pair pair pairs) new
-    add_holds = record {
+    pub add_holds : IsAlone pairs pair → Holds (with_pair pair pairs) new
+    add_holds alone = record {
       told = put_told;
       known = by_in (λ ps. AllByRecursion (λ (p : Pair). (term : Term) → is_of term p.series p.field ≡ true → IsKnown new.terms term) ps)
           (λ _. old_known)
@@ -104,6 +104,7 @@ module _ (pairs : List Pair) (old new : Listing) (prepared : Prepared) (holds : 
           (λ e. adds.pairs ∙ if_not_n adds.there old.pairs (old.pairs + 1) (there_in ∙ e) ∙ (let h = holds.all in omega (arith, h)));
       once = by_in (λ ps. (p : Pair) → count_by (is_same p) ps ≤ 1) (λ _. holds.once) (λ e. once_more pairs pair agree holds.once e);
       agree = by_in (λ ps. AllByRecursion (Agrees ps) ps) (λ _. holds.agree) (λ _. agree_more pairs pair agree holds.agree);
+      alone = by_in (λ ps. AllByRecursion (IsAlone ps) ps) (λ _. holds.alone) (λ _. alone_more pairs pair agree alone holds.alone);
       texts = by_in (λ ps. AllByRecursion (λ (p : Pair). IsSeriesText p.series) ps) (λ _. holds.texts) (λ _. (ready.text, holds.texts));
     }
       where
@@ -330,6 +331,7 @@ module _ (pairs : List Pair) (old new : Listing) (prepared : Prepared) (holds : 
           (cases_Bool removes.there);
       once = λ p. let f = fewer (is_same p) (λ other. not (is_same pair other)) pairs in let h = holds.once p in omega (arith, f, h);
       agree = agree_less pairs pair agree holds.agree;
+      alone = alone_less pairs pair agree holds.alone;
       texts = all_filter (λ (p : Pair). IsSeriesText p.series) (λ other. not (is_same pair other)) pairs holds.texts;
     }
 

@@ -10,7 +10,7 @@ use Rattle.index_lists.specs.declared.term.Term.{Term}
 use Rattle.index_lists.specs.declared.term.Term.TheVariants.{Field}
 use Rattle.index_lists.specs.Listing.{Holds, Listed, Listing, Puts, Takes, is_listed}
 use Rattle.index_lists.specs.Making.{IsThere}
-use Rattle.index_lists.specs.Pairs.{Agrees, Pair, is_in, is_same, without_pair}
+use Rattle.index_lists.specs.Pairs.{Agrees, IsAlone, Pair, is_in, is_same, without_pair}
 use Rattle.index_lists.specs.Ready.{StandAt}
 use Rattle.index_lists.specs.Steps.{GivesRoom, Times}
 use Rattle.index_lists.specs.Terms.{measurement_of, series_terms, terms_of}
@@ -153,6 +153,21 @@ module _ (pairs : List Pair) (pair : Pair) (agree : Agrees pairs pair) where
   pub agree_less : AllByRecursion (Agrees pairs) pairs → AllByRecursion (Agrees (without_pair pair pairs)) (without_pair pair pairs)
   agree_less all = all_from (Agrees (without_pair pair pairs)) (without_pair pair pairs) (λ o m.
       all_filter (λ (x : Pair). x.id ≡ o.id → x.series ≡ o.series) (λ x. not (is_same pair x)) pairs (all_in (Agrees pairs) pairs o all (filter_in (λ x. not (is_same pair x)) pairs o m).0))
+
+  -- ---- one id a series
+
+  pub alone_more : IsAlone pairs pair → AllByRecursion (IsAlone pairs) pairs → AllByRecursion (IsAlone (pair ∷ pairs)) (pair ∷ pairs)
+  alone_more alone all = (
+    (λ _. refl, alone),
+    all_from (IsAlone (pair ∷ pairs)) pairs (λ o m. (
+      λ is. sym (all_in (λ (x : Pair). x.series ≡ pair.series → x.id ≡ pair.id) pairs o alone m (sym is)),
+      all_in (IsAlone pairs) pairs o all m,
+    )),
+  )
+
+  pub alone_less : AllByRecursion (IsAlone pairs) pairs → AllByRecursion (IsAlone (without_pair pair pairs)) (without_pair pair pairs)
+  alone_less all = all_from (IsAlone (without_pair pair pairs)) (without_pair pair pairs) (λ o m.
+      all_filter (λ (x : Pair). x.series ≡ o.series → x.id ≡ o.id) (λ x. not (is_same pair x)) pairs (all_in (IsAlone pairs) pairs o all (filter_in (λ x. not (is_same pair x)) pairs o m).0))
 
   -- ---- the counts
 

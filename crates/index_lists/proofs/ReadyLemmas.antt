@@ -120,6 +120,7 @@ module _ (old new : Listing) (long : length old.terms ≡ length old.lists) (gro
     all = grown.pairs ∙ holds.all;
     once = holds.once;
     agree = holds.agree;
+    alone = holds.alone;
     texts = holds.texts;
   }
 
@@ -203,6 +204,7 @@ holds_none listing terms counts pairs = record {
   all = pairs;
   once = λ pair. omega arith;
   agree = tt;
+  alone = tt;
   texts = tt;
 }
   where
@@ -284,6 +286,7 @@ give_holds pairs old new places terms counts all gives holds = record {
   all = all ∙ holds.all;
   once = holds.once;
   agree = holds.agree;
+  alone = holds.alone;
   texts = holds.texts;
 }
 
@@ -296,6 +299,7 @@ holds_room pairs old new terms lists counts all holds = record {
   all = all ∙ holds.all;
   once = holds.once;
   agree = holds.agree;
+  alone = holds.alone;
   texts = holds.texts;
 }
 

@@ -5,7 +5,7 @@ use Rattle.std.specs.List.Sorted.{IsStrictlySortedBy}
 use Rattle.std.specs.Ordering.{nat_cmp}
 use Rattle.tsdb_types.specs.Series.{IsSeriesText}
 use Rattle.index_lists.specs.declared.term.Term.{Term}
-use Rattle.index_lists.specs.Pairs.{Agrees, Pair, is_same}
+use Rattle.index_lists.specs.Pairs.{Agrees, IsAlone, Pair, is_same}
 use Rattle.index_lists.specs.Terms.{is_of}
 
 -- the id is one of these
@@ -47,7 +47,7 @@ pub record AreIdsOf (test : List ℕ → List ℕ → Bool) (pairs : List Pair) 
 abbrev pub IsKnown : List Term → Term → Type 0
 IsKnown terms term = (place : ℕ) × (slice_get terms place ≡ Some term)
 
--- The lists are those of these pairs, of which none stands twice and those of one id are of one series.
+-- The lists are those of these pairs, of which none stands twice, those of one id are of one series, and those of one series are of one id.
 pub record Holds (pairs : List Pair) (listing : Listing) : Type 0 where
   pub told : (place : ℕ) (term : Term) (listed : Listed) → slice_get listing.terms place ≡ Some term → slice_get listing.lists place ≡ Some listed
       → AreIdsOf (is_of term) pairs listed.ids
@@ -56,4 +56,5 @@ pub record Holds (pairs : List Pair) (listing : Listing) : Type 0 where
   pub all : listing.pairs ≡ length pairs
   pub once : (pair : Pair) → count_by (is_same pair) pairs ≤ 1
   pub agree : AllByRecursion (Agrees pairs) pairs
+  pub alone : AllByRecursion (IsAlone pairs) pairs
   pub texts : AllByRecursion (λ pair. IsSeriesText pair.series) pairs

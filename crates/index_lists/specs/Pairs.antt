@@ -43,7 +43,15 @@ after_all (change ∷ changes) pairs = after_all changes (after change pairs)
 abbrev pub Agrees : List Pair → Pair → Type 0
 Agrees pairs pair = AllByRecursion (λ other. other.id ≡ pair.id → other.series ≡ pair.series) pairs
 
--- changes that may be made of the pairs, in their order: an id has one series
+-- the pairs of this pair's series are of its id
+abbrev pub IsAlone : List Pair → Pair → Type 0
+IsAlone pairs pair = AllByRecursion (λ other. other.series ≡ pair.series → other.id ≡ pair.id) pairs
+
+-- a change that may be made of the pairs: its id has one series, and its series one id
+abbrev pub Suits : List Pair → IndexChange → Type 0
+Suits pairs change = Agrees pairs (pair_of change) × IsAlone pairs (pair_of change)
+
+-- changes that may be made of the pairs, in their order
 abbrev pub MayChange : List Pair → List IndexChange → Type 0
 MayChange pairs [] = ⊤
-MayChange pairs (change ∷ changes) = Agrees pairs (pair_of change) × MayChange (after change pairs) changes
+MayChange pairs (change ∷ changes) = Suits pairs change × MayChange (after change pairs) changes

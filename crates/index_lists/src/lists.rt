@@ -42,7 +42,7 @@ impl Lists {
     ghost use Rattle.index_lists.specs.Names.{AreNamesOf};
     ghost use Rattle.index_lists.specs.Making.{Adds, Forgets, IsThere, Removes};
     ghost use Rattle.index_lists.specs.Steps.{HaveRoom};
-    ghost use Rattle.index_lists.specs.Pairs.{Agrees, Pair, after, pair_of};
+    ghost use Rattle.index_lists.specs.Pairs.{Pair, Suits, after};
     ghost use Rattle.index_lists.specs.Ready.{AreReady, Prepared};
     ghost use Rattle.index_lists.specs.Terms.{is_of};
 
@@ -106,10 +106,10 @@ impl Lists {
     /// Makes the first of the changes that are ready, and gives it back. Takes no memory.
     pub fn commit(&mut self, staged: Staged) -> IndexChange
         requires ready { (prepared : List Prepared) × AreReady self.old (staged ∷ prepared) }
-        requires holds { (pairs : List Pair) × Holds pairs self.old × Agrees pairs (pair_of staged.change) }
+        requires holds { (pairs : List Pair) × Holds pairs self.old × Suits pairs staged.change }
         ensures change { result ≡ staged.change }
         ensures ready { (prepared : List Prepared) → AreReady self.old (staged ∷ prepared) → AreReady self.new prepared }
-        ensures holds { (pairs : List Pair) → Holds pairs self.old → Agrees pairs (pair_of staged.change) → Holds (after staged.change pairs) self.new }
+        ensures holds { (pairs : List Pair) → Holds pairs self.old → Suits pairs staged.change → Holds (after staged.change pairs) self.new }
     {
         let _ = self.map.len();
         let Staged { change, places } = staged;

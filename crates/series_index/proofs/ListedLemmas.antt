@@ -1,5 +1,5 @@
 -- Which of a measurement's ids a term lists.
-use Rattle.std.proofs.Common.{◌≡◌, ◌≢◌, ℕ, ◌<◌, ◌≤◌, ◌&&◌, ◌||◌, Bool, true, false, not, nat_eq, List, [], ◌∷◌, length, Vec, Global, Result, Ok, Err, IfOk, ◌⊎◌, inl, inr, if◌then◌else◌, refl, sym, ap, ◌∙◌, subst, arith}
+use Rattle.std.proofs.Common.{◌≡◌, ◌≢◌, ◌↔◌, ℕ, zero, suc, ◌<◌, ◌≤◌, ◌&&◌, ◌||◌, Bool, true, false, not, nat_eq, List, [], ◌∷◌, length, Contains, IsTrue, Vec, Global, Result, Ok, Err, IfOk, ◌⊎◌, inl, inr, if◌then◌else◌, refl, sym, ap, ◌∙◌, subst, arith}
 use Rattle.std.specs.List.{AllByRecursion, filter, list_any}
 use Rattle.std.specs.List.Sorted.{IsStrictlySortedBy}
 use Rattle.std.specs.Ordering.{nat_cmp, is_le, is_lt}
@@ -16,9 +16,9 @@ use Rattle.point_model.specs.Conditions.{Condition, True, Ne, meets}
 use Rattle.point_model.specs.Tags.{tag_text, tags_in}
 use Rattle.index_lists.specs.declared.term.Term.TheVariants.{Measurement, TagKey, TagValue}
 use Rattle.index_lists.specs.Listing.{AreIdsOf, Holds, Listing}
-use Rattle.index_lists.specs.Pairs.{Agrees, Pair}
+use Rattle.index_lists.specs.Pairs.{Agrees, Pair, is_in, is_same}
 use Rattle.index_lists.specs.Terms.{has_key, has_value, is_of, measurement_of}
-use Rattle.index_lists.proofs.PairLemmas.{In, all_from, all_in, and_first, any_in, both_ways, nat_same, not_false, same_nat, same_text, same_truth, text_same}
+use Rattle.index_lists.proofs.PairLemmas.{In, all_from, all_in, and_both, and_first, and_second, any_in, in_any, both_ways, nat_same, not_false, same_nat, same_text, same_truth, text_same}
 use Rattle.series_index.specs.Index.{is_match}
 use Rattle.series_index.specs.Matching.{Told, has, ids_with, matching, series_in}
 use Rattle.series_index.proofs.FilterLemmas.{all_have, all_map, filter_same, has_picked, without_picked}
@@ -224,3 +224,33 @@ has_pair id series field (p ∷ ps) agree = by (nat_eq id p.id) refl (has_pair i
         let same = text_same (measurement_of p.series) (measurement_of series) (ap measurement_of (agree.0 (sym (same_nat id p.id e)))) in
         ap (λ (b : Bool). (b && bytes_eq p.field field) || some) same ∙ ap (λ (b : Bool). b || some) (turned p.field field) ∙ ap (λ (b : Bool). bytes_eq field p.field || b) rest
     by false e rest = rest
+
+-- an item of a list stands at some place
+in_contains : (pairs : List Pair) (pair : Pair) → In pairs pair → Contains pairs pair
+in_contains [] pair m = absurd m
+in_contains (p ∷ ps) pair (inl e) = (0, omega arith, e)
+in_contains (p ∷ ps) pair (inr n) = let c = in_contains ps pair n in let less = c.1 in (suc c.0, omega (arith, less), c.2)
+
+contains_in : (pairs : List Pair) (pair : Pair) → Contains pairs pair → In pairs pair
+contains_in [] pair c = absurd (let less = c.1 in omega (arith, less))
+contains_in (p ∷ ps) pair (zero, less, is) = inl is
+contains_in (p ∷ ps) pair (suc k, less, is) = inr (contains_in ps pair (k, omega (arith, less), is))
+
+-- where the ids have one series each, a pair is one of these by its id and its field
+pub there_is : (pairs : List Pair) (pair : Pair) (there : Bool) → Agrees pairs pair → there ≡ is_in pairs pair → IsTrue there ↔ Contains pairs pair
+there_is pairs pair there agree is = (to, from)
+  where
+    own : (other : Pair) → In pairs other → is_same pair other ≡ true → other ≡ pair
+    own other m same =
+        let id = same_nat pair.id other.id (and_first (nat_eq pair.id other.id) (bytes_eq pair.field other.field) same) in
+        let field = same_text pair.field other.field (and_second (nat_eq pair.id other.id) (bytes_eq pair.field other.field) same) in
+        let series = all_in (λ (x : Pair). x.id ≡ pair.id → x.series ≡ pair.series) pairs other agree m (sym id) in
+        λ i. record { id = sym id i; series = series i; field = sym field i }
+
+    to : IsTrue there → Contains pairs pair
+    to e = let o = any_in (is_same pair) pairs (sym is ∙ e) in in_contains pairs pair (subst (λ (x : Pair). In pairs x) (own o.0 o.1 o.2) o.1)
+
+    from : Contains pairs pair → IsTrue there
+    from c =
+        is ∙ in_any (is_same pair) pairs pair (contains_in pairs pair c)
+        (and_both (nat_eq pair.id pair.id) (bytes_eq pair.field pair.field) (nat_same pair.id pair.id refl) (text_same pair.field pair.field refl))

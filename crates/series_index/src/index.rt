@@ -33,12 +33,13 @@ impl Model for SeriesIndex {
 }
 
 impl SeriesIndex {
-    ghost use Rattle.std.specs.Prelude.{◌≡◌, ◌≤◌, ◌++◌, [], List, drop, length, IfOk, OnOk, OnErr};
+    ghost use Rattle.std.specs.Prelude.{◌≡◌, ◌≤◌, ◌↔◌, ◌++◌, [], List, Contains, drop, length, IsTrue, IfOk, OnOk, OnErr};
     ghost use Rattle.index_lists.specs.Listing.{AreIdsOf};
     ghost use Rattle.index_lists.specs.Names.{AreNamesOf};
-    ghost use Rattle.index_lists.specs.Pairs.{Agrees, MayChange, Pair, after_all, is_in};
+    ghost use Rattle.index_lists.specs.Pairs.{Agrees, MayChange, Pair, after_all};
     ghost use Rattle.index_lists.specs.Terms.{is_of};
     ghost use Rattle.series_index.specs.Index.{HasContent, is_match};
+    ghost use Rattle.series_index.specs.Staging.{changing};
 
     /// An index without a pair. The seed of the hashes is one that clients don't know: they choose the names.
     pub fn new(alloc: Global, seed: Seed) -> SeriesIndex
@@ -78,12 +79,13 @@ impl SeriesIndex {
         }
     }
 
-    /// Makes the changes that are staged, in their order. They are pending then. Takes no memory.
+    /// Makes the changes that are staged, in their order. Those that change the content are pending then: adding a pair that is there, or removing
+    /// one that isn't, leaves nothing for the log. Takes no memory.
     pub fn commit(&mut self)
         requires { (pairs : List Pair) × HasContent pairs self.old × MayChange pairs self.old.staged }
         ensures content { (pairs : List Pair) → HasContent pairs self.old → MayChange pairs self.old.staged → HasContent (after_all self.old.staged pairs) self.new }
         ensures staged { self.new.staged ≡ [] }
-        ensures pending { self.new.pending ≡ self.old.pending ++ self.old.staged }
+        ensures pending { (pairs : List Pair) → HasContent pairs self.old → MayChange pairs self.old.staged → self.new.pending ≡ self.old.pending ++ changing self.old.staged pairs }
     {
         let staged = mem::replace(&mut self.staged, Vec::new(self.alloc));
         commit_all(&mut self.lists, staged, &mut self.pending);
@@ -100,7 +102,8 @@ impl SeriesIndex {
 
     /// How many pairs there are.
     pub fn pairs(&self) -> usize
-        ensures { result ≡ self.now.lists.pairs }
+        ensures lists { result ≡ self.now.lists.pairs }
+        ensures content { (pairs : List Pair) → HasContent pairs self.now → result ≡ length pairs }
     {
         self.lists.pairs()
     }
@@ -123,7 +126,7 @@ impl SeriesIndex {
     /// Whether a series has points in a field. The id is that of this series alone.
     pub fn has(&self, id: u32, series: &SeriesKey, field: &Name) -> Result<bool, AllocError>
         ensures { IfOk result (λ there. (pairs : List Pair) → HasContent pairs self.now → Agrees pairs (record { id = id; series = series.now; field = field.now })
-            → there ≡ is_in pairs (record { id = id; series = series.now; field = field.now })) }
+            → IsTrue there ↔ Contains pairs (record { id = id; series = series.now; field = field.now })) }
     {
         let measurement = measurement_of(self.alloc, series)?;
         let term = Term::Field(measurement, field.carry()?);

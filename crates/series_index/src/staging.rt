@@ -2,10 +2,10 @@
 ghost use Rattle.std.specs.Prelude.{◌≡◌, ◌+◌, ◌<◌, ◌≤◌, ◌∷◌, ◌++◌, [], List, drop, length, vec_len, vec_capacity, OnOk, OnErr};
 ghost use Rattle.index_lists.specs.declared.change.IndexChange.{IndexChange};
 ghost use Rattle.index_lists.specs.Listing.{Holds};
-ghost use Rattle.index_lists.specs.Pairs.{MayChange, Pair, after_all};
-ghost use Rattle.index_lists.specs.Ready.{AreReady};
+ghost use Rattle.index_lists.specs.Pairs.{MayChange, Pair, Suits, after, after_all};
+ghost use Rattle.index_lists.specs.Ready.{AreReady, Prepared};
 ghost use Rattle.series_index.specs.Index.{changes_of};
-ghost use Rattle.series_index.specs.Staging.{Stages, Unstages};
+ghost use Rattle.series_index.specs.Staging.{Stages, Unstages, changing};
 
 use index_lists::{IndexChange, Lists, Staged};
 use std::alloc::AllocError;
@@ -60,17 +60,35 @@ fn unstage_last(lists: &mut Lists, staged: &mut Vec<Staged>)
     }
 }
 
-/// Makes the changes that are ready, in their order, and puts them behind those that are pending.
+/// Makes the changes that are ready, in their order, and puts those that change the content behind those that are pending.
 pub fn commit_all(lists: &mut Lists, staged: Vec<Staged>, pending: &mut Vec<IndexChange>)
     requires ready { AreReady lists.old staged.items }
     requires content { (pairs : List Pair) × Holds pairs lists.old × MayChange pairs (changes_of staged.items) }
     requires room { length pending.old.items + length staged.items ≤ vec_capacity pending.old }
     ensures content { (pairs : List Pair) → Holds pairs lists.old → MayChange pairs (changes_of staged.items) → Holds (after_all (changes_of staged.items) pairs) lists.new }
-    ensures pending { pending.new.items ≡ pending.old.items ++ changes_of staged.items }
+    ensures pending { (pairs : List Pair) → Holds pairs lists.old → MayChange pairs (changes_of staged.items) → pending.new.items ≡ pending.old.items ++ changing (changes_of staged.items) pairs }
     ensures capacity { vec_capacity pending.old ≤ vec_capacity pending.new }
 {
     for one in staged {
-        push_within(pending, lists.commit(one));
+        commit_one(lists, one, pending);
+    }
+}
+
+// Makes the first of the changes that are ready. Whether it changes the content is told by how many pairs there are behind it.
+fn commit_one(lists: &mut Lists, one: Staged, pending: &mut Vec<IndexChange>)
+    requires ready { (prepared : List Prepared) × AreReady lists.old (one ∷ prepared) }
+    requires content { (pairs : List Pair) × Holds pairs lists.old × Suits pairs one.change }
+    requires room { vec_len pending.old < vec_capacity pending.old }
+    ensures ready { (prepared : List Prepared) → AreReady lists.old (one ∷ prepared) → AreReady lists.new prepared }
+    ensures content { (pairs : List Pair) → Holds pairs lists.old → Suits pairs one.change → Holds (after one.change pairs) lists.new }
+    ensures pending { (pairs : List Pair) → Holds pairs lists.old → Suits pairs one.change → pending.new.items ≡ pending.old.items ++ changing (one.change ∷ []) pairs }
+    ensures few { length pending.new.items ≤ length pending.old.items + 1 }
+    ensures capacity { vec_capacity pending.old ≤ vec_capacity pending.new }
+{
+    let had = lists.pairs();
+    let change = lists.commit(one);
+    if lists.pairs() != had {
+        push_within(pending, change);
     }
 }
 

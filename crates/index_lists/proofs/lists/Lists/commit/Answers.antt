@@ -60,7 +60,7 @@ remove-requires-clause-some c there =
     let there' = subst (λ (n : ℕ). IsThere n c.args.staged.places old.lists true) id (subst (λ (ps : List ℕ). IsThere c.staged.inside.change.id ps old.lists true) is there) in
     let holds = subst (Holds c.requires.holds.0) (sym c.self.view_is) c.requires.holds.1 in
     let ready = subst (λ (l : Listing). IsReady l c.args.staged) (sym c.self.view_is) c.requires.ready.1.each.0 in
-    let some = some_left c.requires.holds.0 old old c.args.staged holds c.requires.holds.2 ready (apart_terms same_term (keys c.self.inside.map) c.len.ensures.unique tells) (same_long c.self.inside.map.entries) there' in
+    let some = some_left c.requires.holds.0 old old c.args.staged holds c.requires.holds.2.0 ready (apart_terms same_term (keys c.self.inside.map) c.len.ensures.unique tells) (same_long c.self.inside.map.entries) there' in
     subst (λ (n : ℕ). (0 < get_or old.counts n 0) × (0 < old.pairs)) (sym id) some
 
 pub returns-then-change-clause-ready : goal.returns-then-change-clause-ready
@@ -73,7 +73,7 @@ returns-then-change-clause-ready c prepared ready =
     ready_behind old c.add.new.self c.args.staged prepared (subst (λ (ps : List ℕ). Leaves ps old c.add.new.self) is leaves) (subst (λ (l : Listing). AreReady l (c.args.staged ∷ prepared)) (sym c.self.view_is) ready)
 
 pub returns-then-change-clause-holds : goal.returns-then-change-clause-holds
-returns-then-change-clause-holds c pairs holds agree =
+returns-then-change-clause-holds c pairs holds suits =
     let is = c.deref.ensures.value ∙ ap (λ (p : Prepared). p.places) c.staged.view_is in
     let id = ap (λ (p : Prepared). p.change.id) c.staged.view_is in
     let mid : Listing = record (the_view c.self.inside) { room = c.self.inside.room - 1 } in
@@ -81,7 +81,7 @@ returns-then-change-clause-holds c pairs holds agree =
     let adds = subst (λ (n : ℕ). Adds n c.args.staged.places mid c.add.new.self) id (subst (λ (ps : List ℕ). Adds c.staged.inside.change.id ps mid c.add.new.self) is c.add.ensures) in
     let add : c.args.staged.change.add ≡ true = sym (ap (λ (p : Prepared). p.change.add) c.staged.view_is) ∙ c.if-change.true in
     subst (λ (ps : List Pair). Holds ps c.add.new.self) (after_add c.args.staged.change pairs add)
-    (add_holds pairs mid c.add.new.self c.args.staged (holds_room pairs (the_view c.self.inside) mid refl refl refl refl (subst (Holds pairs) (sym c.self.view_is) holds)) agree ready (apart_terms same_term (keys c.self.inside.map) c.len.ensures.unique tells) (same_long c.self.inside.map.entries) adds)
+    (add_holds pairs mid c.add.new.self c.args.staged (holds_room pairs (the_view c.self.inside) mid refl refl refl refl (subst (Holds pairs) (sym c.self.view_is) holds)) suits.0 ready (apart_terms same_term (keys c.self.inside.map) c.len.ensures.unique tells) (same_long c.self.inside.map.entries) adds suits.1)
 
 pub returns-clause-ready : goal.returns-clause-ready
 returns-clause-ready c prepared ready =
@@ -93,7 +93,7 @@ returns-clause-ready c prepared ready =
     ready_behind old c.remove.new.self c.args.staged prepared (subst (λ (ps : List ℕ). Leaves ps old c.remove.new.self) is leaves) (subst (λ (l : Listing). AreReady l (c.args.staged ∷ prepared)) (sym c.self.view_is) ready)
 
 pub returns-clause-holds : goal.returns-clause-holds
-returns-clause-holds c pairs holds agree =
+returns-clause-holds c pairs holds suits =
     let is = c.deref-2.ensures.value ∙ ap (λ (p : Prepared). p.places) c.staged.view_is in
     let id = ap (λ (p : Prepared). p.change.id) c.staged.view_is in
     let mid : Listing = record (the_view c.self.inside) { room = c.self.inside.room - 1 } in
@@ -101,4 +101,4 @@ returns-clause-holds c pairs holds agree =
     let removes = subst (λ (n : ℕ). Removes n c.args.staged.places mid c.remove.new.self) id (subst (λ (ps : List ℕ). Removes c.staged.inside.change.id ps mid c.remove.new.self) is c.remove.ensures) in
     let add : c.args.staged.change.add ≡ false = sym (ap (λ (p : Prepared). p.change.add) c.staged.view_is) ∙ c.if-change.false in
     subst (λ (ps : List Pair). Holds ps c.remove.new.self) (after_remove c.args.staged.change pairs add)
-    (remove_holds pairs mid c.remove.new.self c.args.staged (holds_room pairs (the_view c.self.inside) mid refl refl refl refl (subst (Holds pairs) (sym c.self.view_is) holds)) agree ready (apart_terms same_term (keys c.self.inside.map) c.len.ensures.unique tells) (same_long c.self.inside.map.entries) removes)
+    (remove_holds pairs mid c.remove.new.self c.args.staged (holds_room pairs (the_view c.self.inside) mid refl refl refl refl (subst (Holds pairs) (sym c.self.view_is) holds)) suits.0 ready (apart_terms same_term (keys c.self.inside.map) c.len.ensures.unique tells) (same_long c.self.inside.map.entries) removes)

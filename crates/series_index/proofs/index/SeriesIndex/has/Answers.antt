@@ -5,7 +5,7 @@ use Rattle.index_lists.specs.declared.term.Term.TheVariants.{Field}
 use Rattle.index_lists.specs.Listing.{AreIdsOf}
 use Rattle.index_lists.specs.Terms.{is_of}
 use Rattle.series_index.specs.Index.{HasContent}
-use Rattle.series_index.proofs.ListedLemmas.{has_pair}
+use Rattle.series_index.proofs.ListedLemmas.{has_pair, there_is}
 use Rattle.series_index.proofs.index.SeriesIndex.has.Goals as goal
 
 pub is_among-requires : goal.is_among-requires
@@ -17,4 +17,5 @@ pub returns : goal.returns
 returns c pairs holds agree =
     let are =
     subst (λ (t : Term). AreIdsOf (is_of t) pairs c.ids.result.now) (λ i. Field (c.in_ok-measurement.ensures i) (c.in_ok-carry.ensures i)) (c.ids.ensures pairs (subst (HasContent pairs) (sym c.self.view_is) holds)) in
-    c.is_among.ensures ∙ are.has c.args.id ∙ has_pair c.args.id c.args.series.now c.args.field.now pairs agree
+    there_is pairs (record { id = c.args.id; series = c.args.series.now; field = c.args.field.now }) c.is_among.result agree
+    (c.is_among.ensures ∙ are.has c.args.id ∙ has_pair c.args.id c.args.series.now c.args.field.now pairs agree)
